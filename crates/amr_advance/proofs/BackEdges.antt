@@ -26,7 +26,6 @@ use Rattle.amr_advance.proofs.InLots.{IsInStep}
 use Rattle.amr_advance.proofs.LentEdges.{AreEmpty, as_many, lists_count, still_empty}
 use Rattle.amr_advance.proofs.LotsHanded.{AreRunLots, HaveNoEdges}
 use Rattle.amr_advance.proofs.Made.{HaveFlows}
-use Rattle.amr_advance.proofs.RunLists.{same_run}
 use Rattle.amr_advance.proofs.RunZips.{all_runs, zip_length, zip_runs}
 
 -- lists of nothing
@@ -49,13 +48,6 @@ module _ {p : Problem} {l : ℕ} {old : Masses} {ps : List Patch} {cells : List 
         let vs = (get_or lent k x).value.edges.items in
         let ws = (get_or ys k x).value.edges.items in
         omega (arith, lists_count vs, lists_count ws, zip_length (AllZip IsSameEdge) (lists_of vs) (lists_of ws) (flows.same k x lt))
-
-    -- where lists were lent, each lot has one for each patch of its run
-    pub back_count : 0 < length ds → (k : ℕ) (x : Box Lot) → k < length ys → length (get_or ys k x).value.edges.items ≡ length (run t.each k ds)
-    back_count some k x lt =
-        let below : k < runs = omega (arith, lt, made) in
-        let n = g.count in
-        same_count k x below ∙ ap length (g.handed (omega (arith, some, n)) k x (omega (arith, below, before.count))) ∙ same_run t.each k es ds (sym n)
 
     module _ {zs : List (Box Lot)} {bs : List (Vec EdgeCell)} (h : AreLent t.each ds bs ys zs) where
       -- they have none again

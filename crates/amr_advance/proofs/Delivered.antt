@@ -1,5 +1,5 @@
 -- The lots of a level, handed their runs: each packs its messages, and with the messages of all others its frames can be filled.
-use Rattle.std.proofs.Common.{◌≡◌, ◌∙◌, ℕ, ◌+◌, ◌*◌, ◌<◌, ◌≤◌, Bool, true, false, List, length, get_or, map, refl, sym, ap, subst, arith}
+use Rattle.std.proofs.Common.{◌≡◌, ◌∙◌, ℕ, ◌+◌, ◌*◌, ◌<◌, Bool, true, false, List, length, get_or, map, refl, sym, ap, subst, arith}
 use Rattle.std.specs.declared.option.Option.{Option}
 use Rattle.std.specs.Global.{Box, Vec}
 use Rattle.std.specs.List.{All, AllZip}
@@ -19,7 +19,7 @@ use Rattle.amr_ghost.specs.declared.parts.FrameParts.{FrameParts}
 use Rattle.amr_ghost.specs.declared.sources.Span.{Span}
 use Rattle.amr_ghost.proofs.Carrying.{carries_packed}
 use Rattle.amr_ghost.proofs.PartLaws.{copies_received, copies_taken, outer_beside, outer_spans}
-use Rattle.amr_layout.specs.Surroundings.{Around, around}
+use Rattle.amr_layout.specs.Surroundings.{around}
 use Rattle.amr_register.specs.declared.edges.EdgeCell.{EdgeCell}
 use Rattle.amr_register.specs.EdgeCells.{AreEdgesIn, lists_of}
 use Rattle.amr_lots.specs.declared.lot.Lot.{Lot}
@@ -28,7 +28,7 @@ use Rattle.amr_lots.specs.Filling.{CanFill}
 use Rattle.amr_lots.specs.Runs.{IsDelivered, KeepAllButMessages, run}
 use Rattle.amr_lots.specs.Serving.{HasSent, MaySend}
 use Rattle.amr_advance.specs.declared.lots.Lots.{Lots}
-use Rattle.amr_advance.specs.Lots.{AreLotsCurrent, CarryMasses, ServesRun}
+use Rattle.amr_advance.specs.Lots.{CarryMasses, ServesRun}
 use Rattle.amr_advance.specs.Handing.{AreExchanged}
 use Rattle.amr_advance.proofs.Boxes.{IsPackedFrom, all_packed, box_copies, box_crossed, box_packed}
 use Rattle.amr_advance.proofs.InLots.{IsInStep}
@@ -96,7 +96,7 @@ module _ {p : Problem} {l : ℕ} {old : Masses} {ps : List Patch} {cells : List 
         sent k x lt = AllZip-get_or (λ (a b : Box Lot). HasSent a.value b.value) xs ys k x x g (omega (arith, lt, h.lots.count))
 
   -- so they are sent in either case, by what was told of them before
-  pub sent_from : {lent : List (Box Lot)} → HaveRuns level lent lent → (CarryMasses (masses_in ps) t.lots.items → CarryMasses (masses_in ps) lent) → AreLotsCurrent (masses_in ps) t → (xs : List (Box Lot)) → (t.packed ≡ true → xs ≡ lent)
+  pub sent_from : {lent : List (Box Lot)} → HaveRuns level lent lent → (CarryMasses (masses_in ps) t.lots.items → CarryMasses (masses_in ps) lent) → (t.packed ≡ true → CarryMasses (masses_in ps) t.lots.items) → (xs : List (Box Lot)) → (t.packed ≡ true → xs ≡ lent)
       → (t.packed ≡ false → AllZip (λ (a b : Box Lot). HasSent a.value b.value) lent xs) → AreSentFrom level lent xs
   sent_from {lent = lent} h carried current xs kept sent = by_case t.packed refl
     where

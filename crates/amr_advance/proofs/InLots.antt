@@ -1,9 +1,8 @@
 -- The workspace of a run of a level's patches, which is handed them and messages from all runs: their frames are filled by it, and then they
 -- show the level's values, and may make their step.
-use Rattle.std.proofs.Common.{◌≡◌, ◌∙◌, ℕ, zero, suc, ◌+◌, ◌*◌, ◌^◌, ◌<◌, ◌≤◌, true, List, [], ◌∷◌, length, get_or, map, refl, sym, ap, subst, arith}
+use Rattle.std.proofs.Common.{◌≡◌, ◌∙◌, ℕ, suc, ◌+◌, ◌*◌, ◌^◌, ◌<◌, ◌≤◌, true, List, [], ◌∷◌, length, get_or, map, refl, sym, ap, subst, arith}
 use Rattle.std.specs.Prelude.{◌==◌, if◌then◌else◌, unsigned_abs}
 use Rattle.std.specs.declared.option.Option.{Option}
-use Rattle.std.specs.Global.{Vec}
 use Rattle.std.specs.List.{All, AllZip}
 use Rattle.std.proofs.lemmas.List.{get_or-map, length-map}
 use Rattle.std.proofs.lemmas.List.Elements.{AllZip-get_or, length_all_zip}
@@ -30,13 +29,13 @@ use Rattle.amr_ghost.specs.Frames.{AreInDomain, is_of_level}
 use Rattle.amr_ghost.specs.Messages.{AreMessagesTo, HasFilled}
 use Rattle.amr_ghost.specs.Outer.{AreOuterFor}
 use Rattle.amr_ghost.specs.declared.outer.OuterGhosts.{OuterGhosts}
-use Rattle.amr_ghost.specs.declared.parts.FrameCopy.{FrameCopy}
 use Rattle.amr_ghost.specs.declared.parts.FrameParts.{FrameParts}
 use Rattle.amr_ghost.proofs.PartLaws.{outer_valued, run_frames}
 use Rattle.amr_ghost.proofs.Zips.{keeps_refl, zip_boxes, zip_refl}
 use Rattle.amr_layout.specs.declared.FlowTo.{FlowTo}
 use Rattle.amr_layout.specs.Adds.{flows_of, word_total}
 use Rattle.amr_layout.specs.Surroundings.{Around, around}
+use Rattle.amr_layout.proofs.Planned.{level_few}
 use Rattle.amr_register.proofs.EdgeLists.{zip_from}
 use Rattle.amr_lots.specs.declared.lot.Workspace.{Workspace}
 use Rattle.amr_lots.specs.Filling.{AreFilled, HasFoundOuter, HasValuesBy, HasValuesOrLevel}
@@ -47,9 +46,8 @@ use Rattle.amr_lots.proofs.Runs.{run_at, run_place}
 use Rattle.amr_advance.specs.declared.lots.Lots.{Lots}
 use Rattle.amr_advance.specs.Lots.{AreLots, ServesRun}
 use Rattle.amr_advance.specs.Steps.{MayStepLevel}
-use Rattle.amr_advance.proofs.FewFlows.{level_few}
-use Rattle.amr_advance.proofs.OnePatch as OnePatch
 use Rattle.amr_advance.proofs.RunLists.{run_is, total_run_most}
+use Rattle.amr_advance.proofs.OnePatch as OnePatch
 
 pub same_words : (f g : Face → ℕ) (word : ℕ) (xs : List FlowTo) → All (λ (x : FlowTo). f x.face ≡ g x.face) xs → word_total f word xs ≡ word_total g word xs
 same_words f g word [] h = refl

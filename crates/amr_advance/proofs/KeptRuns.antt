@@ -1,5 +1,5 @@
 -- Lots in a phase that posts nothing: they are handed a level's patches, are served, and are handed what they had before.
-use Rattle.std.proofs.Common.{◌≡◌, ◌∙◌, ℕ, ◌+◌, ◌*◌, ◌^◌, ◌<◌, ◌≤◌, Bool, false, List, [], length, get_or, map, refl, sym, ap, subst, arith}
+use Rattle.std.proofs.Common.{◌≡◌, ◌∙◌, ℕ, ◌+◌, ◌*◌, ◌^◌, ◌<◌, ◌≤◌, Bool, true, false, List, [], length, get_or, map, refl, sym, ap, subst, arith}
 use Rattle.std.specs.Global.{Box, Vec}
 use Rattle.std.specs.List.{All, AllZip}
 use Rattle.std.specs.Vec.{with_items}
@@ -9,7 +9,6 @@ use Rattle.amr_def.specs.Domain.{domain}
 use Rattle.amr_def.specs.State.{Masses}
 use Rattle.amr_ghost.specs.Filling.{KeepsCells}
 use Rattle.amr_ghost.specs.Messages.{CarriesMasses, HasPacked, HasPlaces, IsMessageFrom, IsTaken}
-use Rattle.amr_ghost.specs.Parts.{IsParted}
 use Rattle.amr_ghost.specs.declared.messages.Message.{Message}
 use Rattle.amr_ghost.specs.declared.outer.OuterGhosts.{OuterGhosts}
 use Rattle.amr_ghost.specs.declared.parts.FrameCopy.{FrameCopy}
@@ -28,8 +27,9 @@ use Rattle.amr_patch.specs.declared.patches.Patch.{Patch}
 use Rattle.amr_patch.specs.Patches.{ArePatchesApart, box, masses_in}
 use Rattle.amr_register.specs.declared.edges.EdgeCell.{EdgeCell}
 use Rattle.amr_advance.specs.declared.lots.Lots.{Lots}
-use Rattle.amr_advance.specs.Lots.{AreLots, AreLotsFor, AreMade, AreSeveralLots, CarryMasses, HasOthersOf, HasValues, IsBoxOf, IsLotOf, is_one}
+use Rattle.amr_advance.specs.Lots.{AreLots, AreLotsFor, AreMade, AreSeveralLots, CarryMasses, HasOthersOf, HasValues, IsBoxOf, IsLotOf, StillServe, is_one}
 use Rattle.amr_advance.proofs.Boxes.{all_packed, box_copies, box_packed}
+use Rattle.amr_advance.proofs.LotsAgain.{lots_again, several_again}
 use Rattle.amr_advance.proofs.LotsHanded.{when_lent}
 use Rattle.amr_advance.proofs.RunLists.{count_of_boxes, run_boxes, run_is}
 use Rattle.amr_advance.proofs.Served.{KeepsPlan, plan_same, same_inbox, same_outbox, still_lot}
@@ -61,12 +61,12 @@ module _ {s : Around} {each k runs : ℕ} {parts : FrameParts} (a b : Lot) (of :
   }
 
   -- it then is the lot of the same run
-  pub still_of : KeepsRun a b → IsLotOf s each k runs parts b
+  still_of : KeepsRun a b → IsLotOf s each k runs parts b
   still_of h =
       let plan = plan_same a.workspace b.workspace h.workspace in
       still_lot of b plan (same_outbox of.serves b.workspace plan (ap (λ (z : Workspace). z.outbox) h.workspace)) (same_inbox of.serves b.workspace plan (ap (λ (z : Workspace). z.inbox) h.workspace)) (others_still h.patches h.before h.edges)
 
-  pub packed_of : (rs : List Patch) → k < runs → PacksRun rs a b → IsLotOf s each k runs parts b
+  packed_of : (rs : List Patch) → k < runs → PacksRun rs a b → IsLotOf s each k runs parts b
   packed_of rs lt h =
       let plan : KeepsPlan a.workspace b.workspace = subst (KeepsPlan a.workspace) (sym h.workspace) (record { layouts = refl; flows = refl; sides = refl; words = refl; totals = refl; copies = refl; spans = refl; places = λ q. q; room = refl; sizes = refl }) in
       still_lot of b plan (box_packed of.serves.outbox rs b.workspace.outbox.items lt h.packed) (same_inbox of.serves b.workspace plan (ap (λ (z : Workspace). z.inbox) h.workspace)) (others_still h.patches h.before h.edges)
@@ -82,7 +82,7 @@ pub record PackRuns (each : ℕ) (qs : List Patch) (xs ys : List (Box Lot)) : Ty
   pub lots : (k : ℕ) (x : Box Lot) → k < length xs → PacksRun (run each k qs) (get_or xs k x).value (get_or ys k x).value
 
 -- they send what they sent
-pub all_carry : (M : Masses) (xs ys : List (Box Lot)) → KeepRuns xs ys → CarryMasses M xs → CarryMasses M ys
+all_carry : (M : Masses) (xs ys : List (Box Lot)) → KeepRuns xs ys → CarryMasses M xs → CarryMasses M ys
 all_carry M xs ys new h k x lt =
     let below : k < length xs = omega (arith, lt, new.count) in
     subst (λ (w : Workspace). All (CarriesMasses M) w.outbox.items) (sym (new.each k x below).workspace) (h k x below)
@@ -91,54 +91,38 @@ all_carry M xs ys new h k x lt =
 value_still : (p : Problem) (l : ℕ) (old : Masses) (a b : Box Lot) → b.value.workspace.outer ≡ a.value.workspace.outer → HasValues p l old a → HasValues p l old b
 value_still p l old a b same h = record { values = subst (HasValuesBy p l old) (sym same) h.values; not_lent = ap (λ (o : OuterGhosts). o.coarser) same ∙ h.not_lent }
 
-pub all_valued : (p : Problem) (l : ℕ) (old : Masses) (xs ys : List (Box Lot)) → KeepRuns xs ys → All (HasValues p l old) xs → All (HasValues p l old) ys
+all_valued : (p : Problem) (l : ℕ) (old : Masses) (xs ys : List (Box Lot)) → KeepRuns xs ys → All (HasValues p l old) xs → All (HasValues p l old) ys
 all_valued p l old xs ys kept h k x lt =
     let below : k < length xs = omega (arith, lt, kept.count) in
     value_still p l old (get_or xs k x) (get_or ys k x) (ap (λ (w : Workspace). w.outer) (kept.each k x below).workspace) (h k x below)
 
-pub packed_valued : (p : Problem) (l : ℕ) (old : Masses) (each : ℕ) (qs : List Patch) (xs ys : List (Box Lot)) → PackRuns each qs xs ys → All (HasValues p l old) xs → All (HasValues p l old) ys
+packed_valued : (p : Problem) (l : ℕ) (old : Masses) (each : ℕ) (qs : List Patch) (xs ys : List (Box Lot)) → PackRuns each qs xs ys → All (HasValues p l old) xs → All (HasValues p l old) ys
 packed_valued p l old each qs xs ys new h k x lt =
     let below : k < length xs = omega (arith, lt, new.count) in
     value_still p l old (get_or xs k x) (get_or ys k x) (ap (λ (w : Workspace). w.outer) (new.lots k x below).workspace) (h k x below)
 
 -- as many lots, each of the same run still, serve the same level
 module _ (t : Lots) (xs : Vec (Box Lot)) (packed : Bool) (several : is_one t ≡ false) (count : length xs.items ≡ length t.lots.items) where
-  pub lots_by : (s : Around) → ((parts : FrameParts) (k : ℕ) (x : Box Lot) → k < length t.lots.items → IsLotOf s t.each k (length t.lots.items) parts (get_or t.lots.items k x).value → IsLotOf s t.each k (length t.lots.items) parts (get_or xs.items k x).value) → AreLots s t
+  lots_by : (s : Around) → ((parts : FrameParts) (k : ℕ) (x : Box Lot) → k < length t.lots.items → IsLotOf s t.each k (length t.lots.items) parts (get_or t.lots.items k x).value → IsLotOf s t.each k (length t.lots.items) parts (get_or xs.items k x).value) → AreLots s t
       → AreLots s (record t { lots = xs; packed = packed })
-  lots_by s same h = record {
-    of_level = h.of_level;
-    some = h.some;
-    enough = subst (λ n. length s.patches ≤ n * t.each) (sym count) h.enough;
-    small = h.small;
-    many = subst (λ n. n ≤ 2 ^ 26) (sym count) h.many;
-    edges = h.edges;
-    plan = h.plan;
-    planned = h.planned;
-    parts = h.parts;
-    parted = subst (λ n. IsParted h.plan t.each n h.parts) (sym count) h.parted;
-    made = subst (λ b. AreMade b s h.parts (record t { lots = xs; packed = packed })) (sym several) made;
-  }
+  lots_by s same h = lots_again s t xs t.totals packed t.valued count h (subst (λ b. AreMade b s h.parts (record t { lots = xs; packed = packed })) (sym several) (several_again s t xs t.totals packed t.valued count h.parts refl was (λ k x lt. same h.parts k x lt (was.lots k x lt))))
     where
       was : AreSeveralLots s h.parts t
       was = subst (λ b. AreMade b s h.parts t) several h.made
 
-      made : AreSeveralLots s h.parts (record t { lots = xs; packed = packed })
-      made = record {
-        tight = subst (λ n. n * t.each < length s.patches + t.each) (sym count) was.tight;
-        places = was.places;
-        words = was.words;
-        totals = was.totals;
-        plan = was.plan;
-        lots = λ k x lt.
-            let below : k < length t.lots.items = omega (arith, lt, count) in
-            subst (λ n. IsLotOf s t.each k n h.parts (get_or xs.items k x).value) (sym count) (same h.parts k x below (was.lots k x below));
-      }
+-- where they keep their runs, they keep what they have of masses
+pub still_serve : (t : Lots) (xs : Vec (Box Lot)) → is_one t ≡ false → KeepRuns t.lots.items xs.items → StillServe (λ m. m) t (record t { lots = xs })
+still_serve t xs several new = record {
+  lots = λ s. lots_by t xs t.packed several new.count s (λ parts k x below of. still_of (get_or t.lots.items k x).value (get_or xs.items k x).value of (new.each k x below));
+  masses = λ p l own old h. record { packed = λ is. all_carry own t.lots.items xs.items new (h.packed is); valued = λ is. all_valued p l old t.lots.items xs.items new (h.valued is) };
+}
 
-  pub lots_kept : KeepRuns t.lots.items xs.items → (s : Around) → AreLots s t → AreLots s (record t { lots = xs; packed = packed })
-  lots_kept new s = lots_by s (λ parts k x below of. still_of (get_or t.lots.items k x).value (get_or xs.items k x).value of (new.each k x below))
-
-  pub lots_packed : (qs : List Patch) → PackRuns t.each qs t.lots.items xs.items → (s : Around) → AreLots s t → AreLots s (record t { lots = xs; packed = packed })
-  lots_packed qs new s = lots_by s (λ parts k x below of. packed_of (get_or t.lots.items k x).value (get_or xs.items k x).value of (run t.each k qs) below (new.lots k x below))
+-- where they have packed others, these are of the masses that they carry
+pub now_serve : (t : Lots) (xs : Vec (Box Lot)) (m : Masses) (qs : List Patch) → is_one t ≡ false → PackRuns t.each qs t.lots.items xs.items → CarryMasses m xs.items → StillServe (λ own. m) t (record t { lots = xs; packed = true })
+now_serve t xs m qs several new carry = record {
+  lots = λ s. lots_by t xs true several new.count s (λ parts k x below of. packed_of (get_or t.lots.items k x).value (get_or xs.items k x).value of (run t.each k qs) below (new.lots k x below));
+  masses = λ p l own old h. record { packed = λ _. carry; valued = λ is. packed_valued p l old t.each qs t.lots.items xs.items new (h.valued is) };
+}
 
 -- ---- what the calls do with lots
 

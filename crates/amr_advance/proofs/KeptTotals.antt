@@ -1,12 +1,12 @@
 -- What a layout keeps of a step: a total for each word.
-use Rattle.std.proofs.Common.{◌≡◌, ◌∙◌, ℕ, ◌+◌, ◌*◌, ◌<◌, Bool, true, false, List, [], ◌∷◌, length, get_or, subst, arith}
+use Rattle.std.proofs.Common.{◌≡◌, ◌∙◌, ◌+◌, ◌*◌, Bool, true, false, List, [], ◌∷◌, length, get_or, subst, arith}
 use Rattle.std.specs.Global.{Box}
 use Rattle.amr_layout.specs.Surroundings.{Around}
 use Rattle.amr_lots.specs.declared.lot.Lot.{Lot}
 use Rattle.amr_advance.specs.declared.kept.KeptLayout.{KeptLayout}
 use Rattle.amr_advance.specs.declared.lots.Lots.{Lots}
 use Rattle.amr_advance.specs.Kept.{HasFirstTotals, IsLaidOut, totals_kept}
-use Rattle.amr_advance.specs.Lots.{AreLots, AreMade, IsOneLot, first_totals, is_one, totals_by, totals_of}
+use Rattle.amr_advance.specs.Lots.{AreLots, AreMade, IsOneLot, first_totals, is_one, totals_by}
 
 -- those of the lot that is all of its level
 first_count : (s : Around) (t : Lots) (h : AreLots s t) → IsOneLot s h.parts t → length (first_totals t.lots.items) ≡ 2 + 2 * length s.cells

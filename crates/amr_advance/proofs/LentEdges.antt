@@ -1,6 +1,6 @@
 -- The lists of register cells of a level, lent to the lots that have its patches.
 use Rattle.std.proofs.Common.{◌≡◌, ◌∙◌, ℕ, zero, suc, ◌<◌, List, [], ◌∷◌, length, get_or, map, refl, sym, subst, arith}
-use Rattle.std.specs.Global.{Box, Vec}
+use Rattle.std.specs.Global.{Vec}
 use Rattle.std.specs.List.{All, AllZip}
 use Rattle.std.proofs.lemmas.List.{get_or-map, length-map}
 use Rattle.amr_box.specs.Cells.{Extent}
@@ -9,8 +9,7 @@ use Rattle.amr_patch.specs.Patches.{box}
 use Rattle.amr_register.specs.declared.edges.EdgeCell.{EdgeCell}
 use Rattle.amr_register.specs.EdgeCells.{AreEdgesIn, IsSameEdge, SameEdges, lists_of}
 use Rattle.amr_register.proofs.EdgeLists.{zip_from}
-use Rattle.amr_lots.specs.declared.lot.Lot.{Lot}
-use Rattle.amr_lots.specs.Runs.{KeepAllButEdges, run}
+use Rattle.amr_lots.specs.Runs.{run}
 use Rattle.amr_lots.proofs.Runs.{map_run}
 use Rattle.amr_advance.specs.Registers.{AreEdgesFor}
 use Rattle.amr_advance.proofs.RunZips.{zip_length, zip_run}

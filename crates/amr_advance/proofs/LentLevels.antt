@@ -74,9 +74,6 @@ zip3 R S T xs ys zs h g then =
     let m = length_all_zip S ys zs g in
     zip_places T xs zs (n ∙ m) (λ k d lt. then k d lt (AllZip-get_or R xs ys k d d h lt) (AllZip-get_or S ys zs k d d g (omega (arith, lt, n))))
 
-pub all_kept : (k : Option Level) (xs ys : List (Box Lot)) → AllZip (IsLent k) xs ys → AllZip KeepsAllButLent xs ys
-all_kept k xs ys h = zip_weak (IsLent k) KeepsAllButLent xs ys (lent_is_kept k) h
-
 -- lent to those before a place
 pub some_kept : (k : Option Level) (n : ℕ) (xs ys : List (Box Lot)) → AreChangedTo (λ j. IsLent k) n xs ys → AllZip KeepsAllButLent xs ys
 some_kept k n xs ys h = zip_from KeepsAllButLent xs ys h.count (λ j d e lt. subst (KeepsAllButLent (get_or xs j d)) (get_or_default ys j d e (omega (arith, lt, h.count))) (each j d (cases_lt j n)))

@@ -1,5 +1,5 @@
 -- The lots of a level at the start of its step: each is handed its run of the patches and of the lists of register cells.
-use Rattle.std.proofs.Common.{◌≡◌, ◌∙◌, ℕ, zero, suc, ◌+◌, ◌*◌, ◌<◌, false, List, [], ◌∷◌, length, get_or, map, refl, sym, ap, subst, arith}
+use Rattle.std.proofs.Common.{◌≡◌, ◌∙◌, ℕ, zero, suc, ◌+◌, ◌*◌, ◌<◌, List, length, get_or, map, refl, sym, ap, subst, arith}
 use Rattle.std.specs.declared.option.Option.{Option}
 use Rattle.std.specs.Global.{Box, Vec}
 use Rattle.std.specs.List.{All, AllZip}
@@ -11,11 +11,9 @@ use Rattle.amr_def.specs.declared.problem.Problem.{Problem}
 use Rattle.amr_def.specs.State.{Masses}
 use Rattle.amr_patch.specs.declared.levels.Level.{Level as Held}
 use Rattle.amr_patch.specs.declared.patches.Patch.{Patch}
-use Rattle.amr_patch.specs.Patches.{box, masses_in}
+use Rattle.amr_patch.specs.Patches.{box}
 use Rattle.amr_ghost.specs.Filling.{KeepsCells}
 use Rattle.amr_ghost.specs.Messages.{AreMessagesTo, CarriesMasses}
-use Rattle.amr_ghost.specs.declared.messages.Message.{Message}
-use Rattle.amr_ghost.specs.declared.outer.OuterGhosts.{OuterGhosts}
 use Rattle.amr_ghost.specs.declared.parts.FrameParts.{FrameParts}
 use Rattle.amr_ghost.proofs.Zips.{keeps_refl, zip_refl}
 use Rattle.amr_layout.specs.Surroundings.{Around, around}
@@ -27,7 +25,7 @@ use Rattle.amr_lots.specs.Filling.{HasValuesOrLevel}
 use Rattle.amr_lots.specs.Runs.{HasBoxes, KeepAllButEdges, KeepAllButMessages, KeepOthers, run}
 use Rattle.amr_advance.specs.declared.lots.Lots.{Lots}
 use Rattle.amr_advance.specs.Cuts.{IsWorkspaceOf}
-use Rattle.amr_advance.specs.Lots.{AreSeveralLots, CarryMasses, HasOthersOf, IsBoxOf}
+use Rattle.amr_advance.specs.Lots.{AreSeveralLots, CarryMasses, IsBoxOf}
 use Rattle.amr_advance.specs.Registers.{AreEdgesFor}
 use Rattle.amr_advance.specs.Handing.{AreExchanged, AreHanded, AreLent}
 use Rattle.amr_advance.proofs.Boxes.{IsPackedFrom}

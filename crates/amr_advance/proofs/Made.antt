@@ -1,5 +1,5 @@
 -- The lots of a level whose step was made on a board: their patches have the masses of the level's step, and they serve the next one.
-use Rattle.std.proofs.Common.{◌≡◌, ◌∙◌, ℕ, ◌+◌, ◌*◌, ◌/◌, ◌%◌, ◌<◌, ◌≤◌, List, length, get_or, map, refl, sym, ap, subst, arith}
+use Rattle.std.proofs.Common.{◌≡◌, ◌∙◌, ℕ, ◌<◌, List, length, get_or, map, sym, ap, subst, arith}
 use Rattle.std.specs.declared.option.Option.{Option}
 use Rattle.std.specs.Global.{Box, Vec}
 use Rattle.std.specs.List.{All, AllZip}
@@ -30,15 +30,14 @@ use Rattle.amr_lots.specs.declared.lot.Duty.{Duty}
 use Rattle.amr_lots.specs.declared.lot.Duty.TheVariants.{Step}
 use Rattle.amr_lots.specs.declared.lot.Lot.{Lot}
 use Rattle.amr_lots.specs.declared.lot.Work.{Work}
-use Rattle.amr_lots.specs.declared.lot.Workspace.{Workspace}
 use Rattle.amr_lots.specs.Filling.{HasValuesBy}
 use Rattle.amr_lots.specs.Lots.{IsStepped}
 use Rattle.amr_lots.specs.Runs.{KeepAllButEdges, KeepOthers, run}
-use Rattle.amr_lots.specs.Works.{HasFoundNets, IsUnderWay, KeepsLayout, StandsForIn, coarser_of, flux, fluxes_of, masses_of, patches_of}
-use Rattle.amr_lots.proofs.Runs.{map_run, run_at, run_has}
+use Rattle.amr_lots.specs.Works.{HasFoundNets, IsUnderWay, StandsForIn, coarser_of, flux, fluxes_of, masses_of, patches_of}
+use Rattle.amr_lots.proofs.Runs.{map_run}
 use Rattle.amr_advance.specs.declared.lots.Lots.{Lots}
 use Rattle.amr_advance.specs.Cuts.{IsWorkspaceOf}
-use Rattle.amr_advance.specs.Lots.{AreLots, AreSeveralLots, CarryMasses, HasOthersOf, IsBoxOf, IsLotOf}
+use Rattle.amr_advance.specs.Lots.{AreSeveralLots, CarryMasses, IsLotOf}
 use Rattle.amr_advance.specs.Phases.{ArePieces, IsBasisOf, IsDone, IsPiece}
 use Rattle.amr_advance.specs.Handing.{AreHanded, AreLent}
 use Rattle.amr_advance.proofs.Boxes.{IsPackedFrom, all_packed, box_copies, box_packed}
@@ -201,13 +200,6 @@ module _ {p : Problem} {l : ℕ} {old : Masses} {ps : List Patch} {cells : List 
   -- ---- the patches taken back
 
   module _ {xs : List (Box Lot)} (h : HaveMade xs) where
-    step_count : (k : ℕ) (x : Box Lot) → k < runs → length (get_or xs k x).value.patches.items ≡ length (run t.each k ps)
-    step_count k x lt = sym (length_all_zip (IsStepped e) (run t.each k ps) (get_or xs k x).value.patches.items (h.stepped k x lt))
-
-    -- each has as many patches as its run
-    pub counts : (ds : List Patch) → length ds ≡ length ps → (k : ℕ) (x : Box Lot) → k < length xs → length (get_or xs k x).value.patches.items ≡ length (run t.each k ds)
-    counts ds same k x lt = step_count k x (omega (arith, lt, h.count)) ∙ same_run t.each k ps ds (sym same)
-
     module _ (zs : List Patch) (as_many : length zs ≡ length ps) (back : (k : ℕ) (x : Box Lot) → k < length xs → run t.each k zs ≡ (get_or xs k x).value.patches.items) where
       run_stepped : (k : ℕ) (x : Box Lot) → k < runs → AllZip (IsStepped e) (run t.each k ps) (run t.each k zs)
       run_stepped k x lt = subst (AllZip (IsStepped e) (run t.each k ps)) (sym (back k x (omega (arith, lt, h.count)))) (h.stepped k x lt)
@@ -257,8 +249,8 @@ module _ {p : Problem} {l : ℕ} {old : Masses} {ps : List Patch} {cells : List 
             packed_carries t.each k zs (run t.each k zs) (apart_alike ps zs same_boxes level.apart) (run_is t.each k zs) y.copies.items y.masses.items (takes i m below).0 (packed i m below)
 
         -- and they are the lots of the level again
-        pub lots_again : AreSeveralLots s parts t → HaveNoEdges level last → (k : ℕ) (x : Box Lot) → k < runs → IsLotOf s t.each k runs parts (get_or last k x).value
-        lots_again several none k x lt = record {
+        pub lot_again : AreSeveralLots s parts t → HaveNoEdges level last → (k : ℕ) (x : Box Lot) → k < runs → IsLotOf s t.each k runs parts (get_or last k x).value
+        lot_again several none k x lt = record {
           serves = (last_of k x lt).serves;
           words = (last_of k x lt).words;
           layouts = (last_of k x lt).layouts;

@@ -1,25 +1,51 @@
 -- Lots that are made for a level.
-use Rattle.std.proofs.Common.{◌≡◌, ◌∙◌, ℕ, ◌^◌, ◌<◌, ◌≤◌, false, true, List, [], ◌∷◌, length, get_or, drop, map, refl, sym, ap, subst, arith}
+use Rattle.std.proofs.Common.{◌≡◌, ◌∙◌, ℕ, ◌^◌, ◌<◌, ◌≤◌, false, true, List, [], ◌∷◌, length, get_or, drop, map, refl, sym, ap, subst, arith, zero, suc, ◌+◌, ◌*◌, max, length-append}
 use Rattle.std.specs.Global.{Box}
-use Rattle.std.specs.Prelude.{IfOk}
-use Rattle.std.specs.declared.result.Result.{Result}
-use Rattle.std.proofs.lemmas.Bool.{false≢true, le-ltb, lt-ltb}
-use Rattle.std.proofs.lemmas.Result.{IfOk-weaker}
-use Rattle.amr_def.specs.declared.problem.Problem.{Problem}
-use Rattle.amr_def.specs.State.{Masses}
+use Rattle.std.proofs.lemmas.Grind.{div_ceil_times}
+use Rattle.std.proofs.lemmas.Nat.{mul-le}
+use Rattle.std.proofs.lemmas.Bool.{le-ltb, lt-ltb}
+use Rattle.std.specs.List.{AllZip, range_with_len}
+use Rattle.std.proofs.lemmas.List.FromFn.{get_or-range_with_len, length-range_with_len}
 use Rattle.amr_ghost.specs.declared.parts.FrameParts.{FrameParts}
 use Rattle.amr_layout.specs.declared.PatchLayout.{PatchLayout}
 use Rattle.amr_layout.specs.Arounds.{HaveMasks, all_places_read, all_puts}
-use Rattle.amr_layout.specs.Places.{HasMask}
+use Rattle.amr_layout.specs.Places.{HasMask, border_places, borders_of}
 use Rattle.amr_layout.specs.Surroundings.{Around, domain_around, edge_count}
+use Rattle.amr_layout.proofs.LevelPlaces.{borders_few}
+use Rattle.amr_layout.proofs.Planned.{image_at}
+use Rattle.amr_lots.specs.Runs.{lot_count, lot_size, run_count}
 use Rattle.amr_lots.specs.declared.lot.Lot.{Lot}
+use Rattle.amr_lots.specs.Works.{places_read}
 use Rattle.amr_patch.specs.Patches.{box}
+use Rattle.amr_patch.specs.declared.patches.Patch.{Patch}
 use Rattle.amr_phase.specs.Plans.{total}
 use Rattle.amr_advance.specs.declared.lots.Lots.{Lots}
 use Rattle.amr_advance.specs.Cuts.{AreLayoutsFrom}
-use Rattle.amr_advance.specs.Lots.{AreLotsCurrent, AreLotsValued, AreMade, AreSeveralLots, first_totals, is_one, totals_by, totals_of}
-use Rattle.amr_advance.proofs.FewReads.{few_reads}
+use Rattle.amr_advance.specs.Lots.{AreMade, AreSeveralLots, first_totals, is_one, totals_by, totals_of}
+use Rattle.amr_flows.proofs.PutPlaces.{places_count}
+use Rattle.amr_register.proofs.EdgeLists.{zip_from}
 use Rattle.amr_advance.proofs.RunZips.{zip_length}
+
+-- How many places the patches of a level read: no more than their edges have faces.
+
+reads_most : (ts : List PatchLayout) (qs : List Patch) → AllZip (λ (t : PatchLayout) q. length t.border.items ≤ edge_count (box q)) ts qs → length (places_read ts) ≤ total (λ q. edge_count (box q)) qs
+reads_most [] qs h = omega arith
+reads_most (t ∷ ts) [] h = absurd h
+reads_most (t ∷ ts) (q ∷ qs) h = let rest = reads_most ts qs h.1 in let first = h.0 in omega (arith, rest, first, length-append t.border.items (places_read ts))
+
+pub few_reads : (s : Around) (each : ℕ) (ts : List PatchLayout) → length ts ≡ length s.patches → map (λ (t : PatchLayout). t.border.items) ts ≡ all_places_read s each → length (places_read ts) ≤ total (λ q. edge_count (box q)) s.patches
+few_reads s each ts count same =
+    reads_most ts s.patches (zip_from (λ (t : PatchLayout) q. length t.border.items ≤ edge_count (box q)) ts s.patches (omega (arith, count)) (λ k t q lt. few k t q (omega (arith, lt, count)) lt))
+  where
+    few : (k : ℕ) (t : PatchLayout) (q : Patch) → k < length s.patches → k < length ts → length (get_or ts k t).border.items ≤ edge_count (box (get_or s.patches k q))
+    few k t q lt there =
+        let d = domain_around s in
+        let b = box (get_or s.patches k q) in
+        let at : (get_or ts k t).border.items ≡ border_places d s.patches each k
+        = image_at (λ (t : PatchLayout). t.border.items) (border_places d s.patches each) ts (range_with_len 0 (length s.patches)) k t 0 same there (omega (arith, lt, length-range_with_len 0 (length s.patches)))
+        ∙ ap (border_places d s.patches each) (omega (arith, get_or-range_with_len 0 (length s.patches) k 0 lt)) in
+        let long : length (border_places d s.patches each k) ≡ length (borders_of d s.patches each b) = ap length (places_count d s.patches each k q lt) ∙ length-range_with_len _ _ in
+        omega (arith, ap length at, long, borders_few d s.patches each b)
 
 -- ---- one or several
 
@@ -43,13 +69,20 @@ first_is t x one there = first t.lots.items there ∙ ap (λ b. totals_by b t) (
 pub all_are : (t : Lots) → is_one t ≡ false → t.totals.items ≡ totals_of t
 all_are t several = ap (λ b. totals_by b t) (sym several)
 
--- ---- what they keep of masses, where they have packed nothing and have no values
+-- where no more than one is wanted there is one
+one_of : (n size count : ℕ) → 0 < n → n ≤ size → n ≤ count * size → count * size < n + size → count ≡ 1
+one_of n size zero some all enough tight = absurd (omega (arith, enough, some))
+one_of n size (suc zero) some all enough tight = refl
+one_of n size (suc (suc count)) some all enough tight =
+    let more : 2 * size ≤ suc (suc count) * size = mul-le 2 size (suc (suc count)) size (omega arith) (omega arith) in
+    absurd (omega (arith, more, tight, all))
 
-pub not_packed : {E : Type 0} (r : Result Lots E) → IfOk r (λ t. t.packed ≡ false) → IfOk r (λ t. (M : Masses) → AreLotsCurrent M t)
-not_packed r h = IfOk-weaker r (λ (t : Lots). t.packed ≡ false) (λ t. (M : Masses) → AreLotsCurrent M t) (λ t none M is. absurd (false≢true (sym none ∙ is))) h
-
-pub not_valued : {E : Type 0} (r : Result Lots E) → IfOk r (λ t. t.valued ≡ false) → IfOk r (λ t. (p : Problem) (l : ℕ) (old : Masses) → AreLotsValued p l old t)
-not_valued r h = IfOk-weaker r (λ (t : Lots). t.valued ≡ false) (λ t. (p : Problem) (l : ℕ) (old : Masses) → AreLotsValued p l old t) (λ t none p l old is. absurd (false≢true (sym none ∙ is))) h
+pub one_wanted : (wanted n : ℕ) → wanted < 2 → 0 < n → lot_count wanted n ≡ 1
+one_wanted wanted n lt some =
+    let none : 1 ≡ max 1 wanted = omega (arith, lt) in
+    let all = (div_ceil_times n 1 (omega arith)).0 in
+    let fits = div_ceil_times n (lot_size 1 n) (omega arith) in
+    subst (λ w. run_count (max 1 (run_count w n)) n ≡ 1) none (one_of n (lot_size 1 n) (lot_count 1 n) some (omega (arith, all)) fits.0 fits.1)
 
 -- ---- layouts of all patches, none of which is taken
 

@@ -1,16 +1,16 @@
 -- A plan whose tasks are those of another one, in runs of so many each: it is a plan, too, with the same totals and faces.
-use Rattle.std.proofs.Common.{◌≡◌, ◌∙◌, ℕ, zero, suc, ◌+◌, ◌*◌, ◌^◌, ◌<◌, ◌≤◌, ◌⊎◌, inl, inr, List, [], ◌∷◌, ◌++◌, length, get_or, refl, sym, ap, subst, arith}
+use Rattle.std.proofs.Common.{◌≡◌, ◌∙◌, ℕ, suc, ◌+◌, ◌*◌, ◌^◌, ◌<◌, ◌≤◌, ◌⊎◌, inl, inr, List, [], ◌∷◌, length, get_or, refl, sym, ap, subst, arith}
 use Rattle.std.specs.List.{All, flat_map}
 use Rattle.std.proofs.lemmas.Bool.{cases_lt}
 use Rattle.std.proofs.lemmas.List.{get_or_past}
 use Rattle.std.proofs.lemmas.List.Elements.{All-append}
-use Rattle.amr_flows.proofs.LedgerFlowsSums.{total_append}
+use Rattle.amr_layout.proofs.Totals.{total_append}
 use Rattle.amr_lots.specs.Runs.{run}
 use Rattle.amr_lots.proofs.Runs.{run_at, run_place}
 use Rattle.amr_patch.proofs.Lookups.{same_default}
 use Rattle.amr_phase.specs.declared.plan.Post.{Post}
 use Rattle.amr_phase.specs.declared.plan.Task.{Task}
-use Rattle.amr_phase.specs.Plans.{IsPlan, PlanOf, added, adds_of, named, no_post, no_task, planned_face, planned_total, puts_named, puts_of, stored, total}
+use Rattle.amr_phase.specs.Plans.{IsPlan, PlanOf, added, adds_of, named, no_post, no_task, planned_face, planned_total, puts_of, stored, total}
 use Rattle.amr_advance.proofs.RunLists.{total_runs}
 
 pub record IsMerged (each : ℕ) (fine q : PlanOf) : Type 0 where

@@ -1,6 +1,6 @@
 -- Lots whose outer ghost cells got values, or a level by which they can find them, or whose level was taken back: they are lots of the same
 -- level still.
-use Rattle.std.proofs.Common.{◌≡◌, ◌∙◌, ℕ, ◌+◌, ◌*◌, ◌^◌, ◌<◌, ◌≤◌, Bool, true, false, List, [], ◌∷◌, length, get_or, refl, sym, ap, subst, arith}
+use Rattle.std.proofs.Common.{◌≡◌, ◌∙◌, ℕ, ◌<◌, Bool, true, false, List, [], ◌∷◌, length, get_or, refl, sym, subst, arith}
 use Rattle.std.specs.Arc.{arc_value}
 use Rattle.std.specs.declared.option.Option.{Option}
 use Rattle.std.specs.declared.option.Option.TheVariants.{None, Some}
@@ -19,10 +19,8 @@ use Rattle.amr_ghost.specs.declared.sources.Span.{Span}
 use Rattle.amr_ghost.specs.Frames.{is_of_level}
 use Rattle.amr_ghost.specs.Messages.{CarriesMasses}
 use Rattle.amr_ghost.specs.Outer.{AreOuterValuesFor, HasNoMass, HasOuterPlaces, IsOuterSpan, lent, value_count}
-use Rattle.amr_ghost.specs.Parts.{IsParted}
 use Rattle.amr_layout.specs.Surroundings.{Around, around}
 use Rattle.amr_lots.specs.declared.lot.Lot.{Lot}
-use Rattle.amr_lots.specs.declared.lot.Workspace.{Workspace}
 use Rattle.amr_lots.specs.Filling.{CanFill, FollowFrom, HasValuesBy, HasValuesOrLevel}
 use Rattle.amr_lots.specs.Runs.{run}
 use Rattle.amr_patch.specs.declared.levels.Level.{Level}
@@ -34,6 +32,7 @@ use Rattle.amr_advance.specs.Outer.{IsLent, IsReadied, KeepsAllButOuter}
 use Rattle.amr_advance.specs.Steps.{MayStepLevel}
 use Rattle.amr_advance.proofs.Delivered.{can_fill}
 use Rattle.amr_advance.proofs.InLots.{in_step}
+use Rattle.amr_advance.proofs.LotsAgain.{lots_again, several_again}
 use Rattle.amr_advance.proofs.Served.{KeepsPlan, same_inbox, same_outbox, still_lot, still_whole}
 
 -- all but its outer ghost cells' values and what is lent to it is as before
@@ -90,32 +89,11 @@ module _ (s : Around) (t : Lots) (xs : Vec (Box Lot)) (packed valued : Bool) (sa
   u = record t { packed = packed; valued = valued; lots = xs }
 
   pub lots_kept : AreLots s t → AreLots s (record t { packed = packed; valued = valued; lots = xs })
-  lots_kept h = record {
-    of_level = h.of_level;
-    some = h.some;
-    enough = subst (λ n. length s.patches ≤ n * t.each) (sym same.count) h.enough;
-    small = h.small;
-    many = subst (λ n. n ≤ 2 ^ 26) (sym same.count) h.many;
-    edges = h.edges;
-    plan = h.plan;
-    planned = h.planned;
-    parts = h.parts;
-    parted = subst (λ n. IsParted h.plan t.each n h.parts) (sym same.count) h.parted;
-    made = made (is_one t) h.made;
-  }
+  lots_kept h = lots_again s t xs t.totals packed valued same.count h (made (is_one t) h.made)
     where
       made : (b : Bool) → AreMade b s h.parts t → AreMade b s h.parts u
       made true one = record { one = same.count ∙ one.one; lot = λ x. whole_kept (same.each 0 x (let n = one.one in omega (arith, n))) (one.lot x) }
-      made false several = record {
-        tight = subst (λ n. n * t.each < length s.patches + t.each) (sym same.count) several.tight;
-        places = several.places;
-        words = several.words;
-        totals = several.totals;
-        plan = several.plan;
-        lots = λ k x lt.
-            let below : k < length t.lots.items = omega (arith, lt, same.count) in
-            subst (λ n. IsLotOf s t.each k n h.parts (get_or xs.items k x).value) (sym same.count) (lot_kept (same.each k x below) (several.lots k x below));
-      }
+      made false several = several_again s t xs t.totals packed valued same.count h.parts refl several (λ k x lt. lot_kept (same.each k x lt) (several.lots k x lt))
 
   pub carry_kept : (M : Masses) → CarryMasses M t.lots.items → CarryMasses M xs.items
   carry_kept M carried = λ k x lt.

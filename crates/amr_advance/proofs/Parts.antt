@@ -1,13 +1,12 @@
 -- What a step of patches leaves in its registers, and its totals.
-use Rattle.std.proofs.Common.{◌≡◌, ℕ, ◌<◌, true, false, ℤ, pos, ◌+ℤ◌, ◌-ℤ◌, List, [], ◌∷◌, length, map, sym, ap, subst, ◌∙◌, arith, IfSome}
-use Rattle.std.specs.Prelude.{◌==◌, Ok, Err, OnErr, is_some, neg_ℤ, slice_index, unsigned_abs}
+use Rattle.std.proofs.Common.{◌≡◌, ℕ, ◌<◌, ℤ, pos, ◌+ℤ◌, ◌-ℤ◌, List, [], ◌∷◌, length, sym, ap, subst, ◌∙◌, arith, IfSome}
+use Rattle.std.specs.Prelude.{Ok, Err, OnErr, is_some, neg_ℤ, slice_index, unsigned_abs}
 use Rattle.std.specs.Global.{Vec}
 use Rattle.std.specs.Vec.{with_items}
 use Rattle.std.specs.declared.option.Option.{Option}
 use Rattle.std.specs.declared.option.Option.TheVariants.{None, Some}
 use Rattle.std.specs.declared.result.Result.{Result}
 use Rattle.std.specs.List.{All, AllZip, Contains}
-use Rattle.std.proofs.lemmas.Bool.{eqb-true}
 use Rattle.std.proofs.lemmas.List.{length-map, with_items_is}
 use Rattle.std.proofs.lemmas.Slice.Zip.{AllZip-long}
 use Rattle.std.proofs.lemmas.Int.{ints}
@@ -22,16 +21,15 @@ use Rattle.amr_patch.specs.declared.levels.Level.{Level as Held}
 use Rattle.amr_patch.specs.declared.patches.Patch.{Patch}
 use Rattle.amr_patch.specs.Levels.{level_of}
 use Rattle.amr_ghost.specs.Frames.{AreInDomain}
-use Rattle.amr_patch.specs.Patches.{ArePatchesApart, box, masses_in}
+use Rattle.amr_patch.specs.Patches.{ArePatchesApart, masses_in}
 use Rattle.amr_flows.specs.Laws.{plain_size}
 use Rattle.amr_flows.specs.Words.{level_total}
 use Rattle.amr_register.specs.declared.register.Register.{Register}
 use Rattle.amr_register.specs.declared.edges.EdgeCell.{EdgeCell}
 use Rattle.amr_register.specs.CoarseFlows.{edge_flows}
-use Rattle.amr_register.specs.EdgeCells.{AreEdges, AreEdgesIn, HaveNets, IsSameEdge, IsSmallNet, SameEdges, lists_of}
+use Rattle.amr_register.specs.EdgeCells.{AreEdges, AreEdgesIn, IsSameEdge, IsSmallNet, SameEdges, lists_of}
 use Rattle.amr_register.specs.Registers.{HasEdgesOf, IsRegisterOf, SameCells, edges_in, entry_in}
 use Rattle.amr_register.proofs.SameCells.{put_back, register_kept, same_itself, same_twice}
-use Rattle.amr_register.proofs.EdgeNets.{nets_are}
 use Rattle.amr_layout.specs.Surroundings.{around, finer_masses}
 use Rattle.amr_advance.specs.Registers.{AreEdgesFor, AreNetsOf, BothAreWithEdges, BothChange, BothHaveTakenNets, HasEdges, MayTakeNets, edges_of, taken}
 use Rattle.amr_advance.specs.Totals.{HasTotals}
@@ -62,14 +60,6 @@ for_boxes boxes (x ∷ xs) h = h
 pub edges_for : (boxes : List Extent) (r : Option Register) → IfSome r (HasEdgesOf boxes) → AreEdgesFor boxes (edges_of r)
 edges_for boxes None h = tt
 edges_for boxes (Some r) h = for_boxes boxes (edges_in r) h.lists
-
-pub some_lists : (boxes : List Extent) (vs : List (Vec EdgeCell)) → (length vs == 0) ≡ false → AreEdgesFor boxes (lists_of vs) → AllZip AreEdgesIn boxes (lists_of vs)
-some_lists boxes [] e h = absurd cc
-some_lists boxes (v ∷ vs) e h = h
-
-pub no_lists : (P : List EdgeCell → Type 0) (vs : List (Vec EdgeCell)) → (length vs == 0) ≡ true → All P (lists_of vs)
-no_lists P [] e k d lt = absurd (omega (arith, lt))
-no_lists P (v ∷ vs) e k d lt = absurd (omega (arith, eqb-true (length (v ∷ vs)) 0 e))
 
 -- a register whose lists were taken out and became these, which were put back
 pub record IsBack (ys : List (List EdgeCell)) (r s : Register) : Type 0 where

@@ -1,10 +1,8 @@
 -- The pieces of lots, and the lots of pieces.
-use Rattle.std.proofs.Common.{◌≡◌, ◌∙◌, ◌⊎◌, inl, inr, ℕ, zero, suc, ◌+◌, ◌<◌, ◌≤◌, List, [], ◌∷◌, ◌++◌, length, Option, Some, None, get_or, map, set, refl, sym, ap, subst, arith}
+use Rattle.std.proofs.Common.{◌≡◌, ◌∙◌, ℕ, zero, suc, ◌+◌, ◌<◌, List, [], ◌∷◌, ◌++◌, length, Option, Some, None, get_or, map, set, refl, sym, ap, subst, arith}
 use lib.ListN.{get_elem?}
 use mathlib.Core.Option.{some-injective}
 use Rattle.std.specs.Global.{Box}
-use Rattle.std.specs.List.{AllZip}
-use Rattle.std.proofs.lemmas.Bool.{cases_lt}
 use Rattle.std.proofs.lemmas.List.{ext_get_or, get_or-map, get_or_append_left, get_or_push, length-map, length_push}
 use Rattle.amr_def.specs.declared.problem.Problem.{Problem}
 use Rattle.amr_board.specs.declared.board.Shape.{Shape}
@@ -16,22 +14,12 @@ use Rattle.amr_lots.specs.declared.lot.Duty.{Duty}
 use Rattle.amr_lots.specs.declared.lot.Lot.{Lot}
 use Rattle.amr_lots.specs.declared.lot.Work.{Work}
 use Rattle.amr_lots.specs.Ready.{MayComplete}
-use Rattle.amr_lots.specs.Works.{StandsFor}
 use Rattle.amr_lots.proofs.Completing.{may_complete}
 use Rattle.amr_register.proofs.EdgeLists.{first_of}
-use Rattle.amr_advance.specs.Phases.{ArePieces, AreCollected, HasPiece, HasRun, IsCollected, IsDone, IsPiece, IsPieceOf, MayCollect, planned}
+use Rattle.amr_advance.proofs.MadeMessages.{one_more}
+use Rattle.amr_advance.specs.Phases.{ArePieces, AreCollected, HasRun, IsDone, IsPiece, IsPieceOf, MayCollect, planned}
 
--- ---- one more
-
--- what holds of each item by its place, where one more comes
-pub one_more : {X : Type 0} (P : ℕ → X → Type 0) (xs : List X) (x : X) (n : ℕ) → length xs ≡ n → ((j : ℕ) (d : X) → j < n → P j (get_or xs j d)) → P n x → (j : ℕ) (d : X) → j < n + 1 → P j (get_or (xs ++ x ∷ []) j d)
-one_more P xs x n count h last j d lt = from (cases_lt j n)
-  where
-    from : ((j < n) ⊎ (n ≤ j)) → P j (get_or (xs ++ x ∷ []) j d)
-    from (inl l) = subst (P j) (sym (get_or_append_left xs (x ∷ []) d j (omega (arith, l, count)))) (h j d l)
-    from (inr g) =
-        let at : n ≡ j = omega (arith, lt, g) in
-        subst (λ i. P i (get_or (xs ++ x ∷ []) i d)) at (subst (P n) (sym (get_or_push xs x d n count)) last)
+-- ---- pieces
 
 module _ (b : Basis) (l : ℕ) (duty : Duty) where
   pub no_pieces : ArePieces b l duty [] []
@@ -40,7 +28,7 @@ module _ (b : Basis) (l : ℕ) (duty : Duty) where
   pub one_piece_more : (xs : List (Box Lot)) (ws : List Work) (x : Box Lot) (w : Work) → ArePieces b l duty xs ws → IsPiece b l duty (length xs) x w → ArePieces b l duty (xs ++ x ∷ []) (ws ++ w ∷ [])
   one_piece_more xs ws x w h last = record {
     count = length_push ws w ∙ ap (λ n. n + 1) h.count ∙ sym (length_push xs x);
-    each = λ k y v lt. one_more (λ j (z : Box Lot). IsPiece b l duty j z (get_or (ws ++ w ∷ []) j v)) xs x (length xs) refl
+    each = λ k y v lt. one_more (λ j (z : Box Lot). IsPiece b l duty j z (get_or (ws ++ w ∷ []) j v)) xs (xs ++ x ∷ []) x (length xs) refl refl
         (λ j y' below. subst (IsPiece b l duty j (get_or xs j y')) (sym (get_or_append_left ws (w ∷ []) v j (omega (arith, below, h.count)))) (h.each j y' v below))
         (subst (IsPiece b l duty (length xs) x) (sym (get_or_push ws w v (length xs) h.count)) last) k y (omega (arith, lt, length_push xs x));
   }

@@ -1,13 +1,11 @@
 -- What a lot keeps through a phase: what serves its run of the level's patches.
-use Rattle.std.proofs.Common.{◌≡◌, ◌∙◌, ℕ, ◌+◌, ◌*◌, ◌<◌, ◌≤◌, List, length, get_or, map, refl, sym, ap, subst, arith}
+use Rattle.std.proofs.Common.{◌≡◌, ◌∙◌, ℕ, ◌+◌, ◌*◌, ◌<◌, List, length, get_or, map, refl, sym, ap, subst, arith}
 use Rattle.std.specs.Global.{Box, Vec}
 use Rattle.std.specs.List.{All, AllZip}
 use Rattle.amr_flux.specs.Rooms.{widest}
 use Rattle.amr_flux.specs.declared.fluxes.Sides.{Sides}
 use Rattle.amr_ghost.specs.Outer.{HasOuterPlaces}
-use Rattle.amr_ghost.specs.Parts.{IsParted}
 use Rattle.amr_ghost.specs.declared.messages.Message.{Message}
-use Rattle.amr_ghost.specs.declared.outer.OuterGhosts.{OuterGhosts}
 use Rattle.amr_ghost.specs.declared.parts.FrameParts.{FrameParts}
 use Rattle.amr_layout.specs.declared.FlowTo.{FlowTo}
 use Rattle.amr_layout.specs.declared.PatchLayout.{PatchLayout}
@@ -20,7 +18,7 @@ use Rattle.amr_layout.specs.Surroundings.{Around, domain_around}
 use Rattle.amr_lots.specs.declared.lot.Lot.{Lot}
 use Rattle.amr_lots.specs.declared.lot.Workspace.{Workspace}
 use Rattle.amr_lots.specs.Ready.{HasFlowsIn}
-use Rattle.amr_lots.specs.Runs.{IsDelivered, KeepAllButBefore, KeepAllButEdges, KeepOthers, run}
+use Rattle.amr_lots.specs.Runs.{IsDelivered, KeepAllButEdges, KeepOthers, run}
 use Rattle.amr_lots.specs.Serving.{HasSent}
 use Rattle.amr_lots.specs.Works.{KeepsLayout, places_read}
 use Rattle.amr_patch.specs.declared.patches.Patch.{Patch}
@@ -46,28 +44,11 @@ plan_itself a = record { layouts = refl; flows = refl; sides = refl; words = ref
 pub plan_same : (a b : Workspace) → b ≡ a → KeepsPlan a b
 plan_same a b is = subst (KeepsPlan a) (sym is) (plan_itself a)
 
-pub plan_twice : (a b c : Workspace) → KeepsPlan a b → KeepsPlan b c → KeepsPlan a c
-plan_twice a b c h g = record {
-  layouts = g.layouts ∙ h.layouts;
-  flows = g.flows ∙ h.flows;
-  sides = g.sides ∙ h.sides;
-  words = g.words ∙ h.words;
-  totals = g.totals ∙ h.totals;
-  copies = g.copies ∙ h.copies;
-  spans = g.spans ∙ h.spans;
-  places = λ p. g.places (h.places p);
-  room = g.room ∙ h.room;
-  sizes = g.sizes ∙ h.sizes;
-}
-
 pub plan_handed : (a b : Box Lot) → KeepOthers a b → KeepsPlan a.value.workspace b.value.workspace
 plan_handed a b h = plan_same a.value.workspace b.value.workspace (ap (λ (z : Lot). z.workspace) h)
 
 pub plan_lent : (a b : Box Lot) → KeepAllButEdges a b → KeepsPlan a.value.workspace b.value.workspace
 plan_lent a b h = plan_same a.value.workspace b.value.workspace (ap (λ (z : Lot). z.workspace) h)
-
-pub plan_before : (a b : Box Lot) → KeepAllButBefore a b → KeepsPlan a.value.workspace b.value.workspace
-plan_before a b h = plan_same a.value.workspace b.value.workspace (ap (λ (z : Lot). z.workspace) h)
 
 pub plan_exchanged : (a b : Lot) → IsDelivered a b → KeepsPlan a.workspace b.workspace
 plan_exchanged a b h = subst (λ (z : Lot). KeepsPlan a.workspace z.workspace) (sym h.others) (record { layouts = refl; flows = refl; sides = refl; words = refl; totals = refl; copies = refl; spans = refl; places = λ p. p; room = refl; sizes = refl })

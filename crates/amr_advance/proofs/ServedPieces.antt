@@ -1,10 +1,8 @@
 -- Pieces of lots in a phase that posts nothing, and what a closed board has of them. And what one has of lots that made their step.
-use Rattle.std.proofs.Common.{◌≡◌, ◌∙◌, ℕ, zero, suc, ◌+◌, ◌^◌, ◌<◌, ◌≤◌, List, [], ◌∷◌, length, get_or, map, refl, sym, ap, subst, arith}
+use Rattle.std.proofs.Common.{◌≡◌, ◌∙◌, ℕ, zero, suc, ◌<◌, List, [], ◌∷◌, length, get_or, map, refl, sym, ap, subst, arith}
 use Rattle.std.specs.Prelude.{slice_index}
 use Rattle.std.specs.Global.{Box}
 use Rattle.std.specs.List.{All, AllZip}
-use Rattle.std.proofs.lemmas.List.{length-map}
-use Rattle.std.proofs.lemmas.List.Elements.{length_all_zip}
 use Rattle.amr_def.specs.declared.problem.Problem.{Problem}
 use Rattle.amr_board.specs.declared.board.Shape.{Shape}
 use Rattle.amr_board.specs.Ended.{EndedOf, total_of}
@@ -13,10 +11,9 @@ use Rattle.amr_lots.specs.declared.lot.Duty.{Duty}
 use Rattle.amr_lots.specs.declared.lot.Duty.TheVariants.{Correct, Keep, Send, Step}
 use Rattle.amr_lots.specs.declared.lot.Lot.{Lot}
 use Rattle.amr_lots.specs.declared.lot.Work.{Work}
-use Rattle.amr_lots.specs.Lots.{IsStepped}
-use Rattle.amr_lots.specs.Ready.{MayBegin, MayBeginIn}
+use Rattle.amr_lots.specs.Ready.{MayBeginIn}
 use Rattle.amr_lots.specs.Serving.{IsServed, MayServe}
-use Rattle.amr_lots.specs.Works.{IsUnderWay, StandsForIn, adds_in, adds_of_work, flux, patches_of, puts_in, puts_of_work}
+use Rattle.amr_lots.specs.Works.{IsUnderWay, StandsForIn, adds_in, adds_of_work, puts_in, puts_of_work}
 use Rattle.amr_phase.specs.declared.plan.Task.{Task}
 use Rattle.amr_phase.specs.Plans.{IsPlan, PlanOf, added, named, no_task, planned_total, total}
 use Rattle.amr_register.proofs.EdgeLists.{first_of}

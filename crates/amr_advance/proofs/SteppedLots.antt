@@ -1,6 +1,6 @@
 -- A level's lots in their step, from where they stand between steps to where they stand again: what the calls in between have to be given, and
 -- what comes of them, done or refused.
-use Rattle.std.proofs.Common.{◌≡◌, ◌∙◌, ℕ, zero, suc, ◌+◌, ◌*◌, ◌^◌, ◌<◌, ◌≤◌, Bool, true, false, List, [], ◌∷◌, length, get_or, map, refl, sym, ap, subst, arith}
+use Rattle.std.proofs.Common.{◌≡◌, ◌∙◌, ℕ, zero, suc, ◌<◌, Bool, true, false, List, [], ◌∷◌, length, get_or, map, refl, sym, ap, subst, arith}
 use Rattle.std.specs.Prelude.{nat_lt, slice_index}
 use Rattle.std.specs.declared.option.Option.{Option}
 use Rattle.std.specs.Global.{Box, Vec}
@@ -26,16 +26,14 @@ use Rattle.amr_lots.specs.Runs.{KeepAllButEdges, KeepOthers, run}
 use Rattle.amr_patch.specs.declared.levels.Level.{Level as Held}
 use Rattle.amr_patch.specs.declared.patches.Patch.{Patch}
 use Rattle.amr_patch.specs.Patches.{box, masses_in}
-use Rattle.amr_board.specs.declared.board.Shape.{Shape}
-use Rattle.amr_ghost.specs.Parts.{IsParted}
-use Rattle.amr_phase.specs.Plans.{IsPlan, planned_total}
+use Rattle.amr_phase.specs.Plans.{IsPlan}
 use Rattle.amr_register.specs.declared.edges.EdgeCell.{EdgeCell}
 use Rattle.amr_register.specs.EdgeCells.{IsSameEdge, SameEdges, lists_of}
 use Rattle.amr_advance.specs.declared.lots.Lots.{Lots}
-use Rattle.amr_advance.specs.Lots.{AreLots, AreLotsCurrent, AreMade, AreSeveralLots, CarryMasses, IsLotOf, is_one, totals_by}
-use Rattle.amr_advance.specs.Phases.{ArePieces, HasAsMany, HaveMadeStep, IsBasisOf, IsDone, MayBeRun, planned}
+use Rattle.amr_advance.specs.Lots.{AreLots, AreMade, AreSeveralLots, CarryMasses, IsLotOf, is_one, totals_by}
+use Rattle.amr_advance.specs.Phases.{ArePieces, HasAsMany, HaveMadeStep, IsBasisOf, IsDone, MayBeRun}
 use Rattle.amr_advance.specs.Registers.{AreEdgesFor}
-use Rattle.amr_advance.specs.Steps.{AreFound, AreTotalsOf, HaveStepped}
+use Rattle.amr_advance.specs.Steps.{AreFound, AreTotalsOf, HaveStepped, LotsMadeStep}
 use Rattle.amr_advance.specs.Handing.{AreHanded, AreLent, HaveBeenHanded}
 use Rattle.amr_advance.proofs.BackEdges.{again_none, all_nets, all_same, all_small}
 use Rattle.amr_advance.proofs.Begin.{plan_total}
@@ -45,8 +43,9 @@ use Rattle.amr_advance.proofs.FinePlan.{are_planned, fine_plan}
 use Rattle.amr_advance.proofs.InDomain.{all_lie}
 use Rattle.amr_advance.proofs.InLots.{IsInStep, totals_small}
 use Rattle.amr_advance.proofs.LentEdges.{AreEmpty, as_many}
+use Rattle.amr_advance.proofs.LotsAgain.{lots_again, several_again}
 use Rattle.amr_advance.proofs.LotsHanded.{AreDelivered, AreRunLots, HaveLists, HaveNoEdges, first_empty, first_lots, handed_empty, lent_lists, lent_runs, now_handed, still_carried}
-use Rattle.amr_advance.proofs.Made.{HaveFlows, HaveMade, all_stepped, carried, last_valued, lent_made, lots_again, made, made_flows}
+use Rattle.amr_advance.proofs.Made.{HaveFlows, HaveMade, all_stepped, carried, last_valued, lent_made, lot_again, made, made_flows}
 use Rattle.amr_advance.proofs.RunLists.{same_run, same_runs}
 
 -- the same register cells
@@ -90,31 +89,14 @@ module _ {p : Problem} {l : ℕ} {old : Masses} {ps : List Patch} {cells : List 
   -- lots in their place, each of the same run, are lots of the level
   lots_last : (last : List (Box Lot)) (xs : Vec (Box Lot)) (totals : Vec ℕ) (packed valued : Bool) → xs.items ≡ last → length totals.items ≡ length t.totals.items → ((k : ℕ) (x : Box Lot) → k < runs → IsLotOf s t.each k runs level.lots.parts (get_or last k x).value) → length last ≡ runs
       → AreLots s (record t { packed = packed; valued = valued; lots = xs; totals = totals })
-  lots_last last xs totals packed valued is many each count = record {
-    of_level = level.lots.of_level;
-    some = level.lots.some;
-    enough = subst (λ n. length ps ≤ n * t.each) (sym same) level.lots.enough;
-    small = level.lots.small;
-    many = subst (λ n. n ≤ 2 ^ 26) (sym same) level.lots.many;
-    edges = level.lots.edges;
-    plan = level.lots.plan;
-    planned = level.lots.planned;
-    parts = level.lots.parts;
-    parted = subst (λ n. IsParted level.lots.plan t.each n level.lots.parts) (sym same) level.lots.parted;
-    made = subst (λ b. AreMade b s level.lots.parts (record t { packed = packed; valued = valued; lots = xs; totals = totals })) (sym one) (record {
-      tight = subst (λ n. n * t.each < length ps + t.each) (sym same) several.tight;
-      places = several.places;
-      words = several.words;
-      totals = many ∙ several.totals;
-      plan = several.plan;
-      lots = λ k x lt. subst (λ n. IsLotOf s t.each k n level.lots.parts (get_or xs.items k x).value) (sym same) (subst (λ (ys : List (Box Lot)). IsLotOf s t.each k runs level.lots.parts (get_or ys k x).value) (sym is) (each k x (omega (arith, lt, same))));
-    });
-  }
+  lots_last last xs totals packed valued is many each count =
+      lots_again s t xs totals packed valued same level.lots (subst (λ b. AreMade b s level.lots.parts (record t { packed = packed; valued = valued; lots = xs; totals = totals })) (sym one)
+      (several_again s t xs totals packed valued same level.lots.parts many several (λ k x lt. subst (λ (ys : List (Box Lot)). IsLotOf s t.each k runs level.lots.parts (get_or ys k x).value) (sym is) (each k x lt))))
     where
       same : length xs.items ≡ runs
       same = ap length is ∙ count
 
-  module _ {qs : List Patch} {es ds : List (Vec EdgeCell)} {xs : List (Box Lot)} (h : HaveBeenHanded t ps qs es ds xs) (fit : AreEdgesFor (map box ps) (lists_of es)) (current : AreLotsCurrent (masses_in ps) t) where
+  module _ {qs : List Patch} {es ds : List (Vec EdgeCell)} {xs : List (Box Lot)} (h : HaveBeenHanded t ps qs es ds xs) (fit : AreEdgesFor (map box ps) (lists_of es)) (current : t.packed ≡ true → CarryMasses (masses_in ps) t.lots.items) where
     g : AreLent t.each es ds h.handed h.lent
     g = h.lists
 
@@ -212,10 +194,10 @@ module _ {p : Problem} {l : ℕ} {old : Masses} {ps : List Patch} {cells : List 
             as_many_patches : length rs ≡ length ps
             as_many_patches = c_count ∙ h.count
 
-            pub now_stepped : AllZip (IsStepped (flux_at p l (masses_in ps) old)) ps rs
+            now_stepped : AllZip (IsStepped (flux_at p l (masses_in ps) old)) ps rs
             now_stepped = all_stepped level now rs as_many_patches c_back
 
-            pub now_found : AreFound (around p l ps cells next) old (lists_of es) (lists_of bs)
+            now_found : AreFound (around p l ps cells next) old (lists_of es) (lists_of bs)
             now_found = record {
               same = all_same level handed_are none fit g ys_count flows b;
               small = all_small level handed_are none fit g ys_count flows b;
@@ -247,9 +229,9 @@ module _ {p : Problem} {l : ℕ} {old : Masses} {ps : List Patch} {cells : List 
 
               kept : AreLots s (record t { packed = u.packed; valued = u.valued; lots = u.lots; totals = u.totals })
               kept = lots_last last u.lots u.totals u.packed u.valued place.lots place.totals
-                  (λ k x lt. lots_again level now rs as_many_patches c_back h.count c several none_again k x lt) (sym (length_all_zip KeepOthers zs last c.others) ∙ zs_count)
+                  (λ k x lt. lot_again level now rs as_many_patches c_back h.count c several none_again k x lt) (sym (length_all_zip KeepOthers zs last c.others) ∙ zs_count)
 
-              pub now_lots : HaveStepped (around p l ps cells next) old rs t u
+              now_lots : HaveStepped (around p l ps cells next) old rs t u
               now_lots = record {
                 lots = subst (AreLots s) (λ i. record { level = sym place.level i; wanted = sym place.wanted i; each = sym place.each i; shape = sym place.shape i; packed = u.packed; valued = u.valued; lots = u.lots; totals = u.totals }) kept;
                 wanted = place.wanted;
@@ -257,3 +239,6 @@ module _ {p : Problem} {l : ℕ} {old : Masses} {ps : List Patch} {cells : List 
                 values = subst (All (λ (x : Box Lot). HasValuesBy p l old x.value.workspace.outer)) (sym place.lots) (last_valued level now rs as_many_patches c_back h.count c);
                 totals = subst (λ b'. AreTotalsOf s old (totals_by b' u)) (sym ((λ i. nat_lt (place.wanted i) 2) ∙ one)) totals_are;
               }
+
+              pub now_made : LotsMadeStep (around p l ps cells next) old rs (lists_of es) (lists_of bs) t u
+              now_made = record { stepped = now_stepped; lots = now_lots; edges = now_found }

@@ -1,36 +1,192 @@
 -- The step of a level by the lot that is all of it.
-use Rattle.std.proofs.Common.{◌≡◌, ◌∙◌, ℕ, ◌+◌, ◌*◌, ◌^◌, ◌<◌, ◌≤◌, true, List, [], ◌∷◌, length, get_or, map, set, refl, sym, ap, subst, arith}
+use Rattle.std.proofs.Common.{◌≡◌, ◌∙◌, ℕ, ◌<◌, true, List, [], ◌∷◌, length, get_or, map, set, refl, sym, ap, subst, arith, zero, suc, ◌+◌, ◌*◌, ◌-◌, drop}
 use Rattle.std.specs.Box.{with_value}
 use Rattle.std.specs.Global.{Box, Vec}
 use Rattle.std.specs.List.{All, AllZip}
 use Rattle.std.specs.Vec.{with_item}
 use Rattle.std.specs.declared.option.Option.{Option}
-use Rattle.std.proofs.lemmas.List.{get_or_default}
+use Rattle.std.specs.Prelude.{slice_index}
+use Rattle.std.proofs.lemmas.List.{ext_get_or, get_or-map, length-map}
+use Rattle.std.proofs.lemmas.List.Elements.{All-drop, All-take, AllZip-get_or, length_all_zip}
+use Rattle.std.proofs.lemmas.List.FromFn.{get_or-map-range_with_len, length-map-range_with_len}
 use Rattle.amr_box.specs.declared.Cell.{Cell}
 use Rattle.amr_def.specs.declared.problem.Problem.{Problem}
-use Rattle.amr_def.specs.Flux.{flux_at}
 use Rattle.amr_def.specs.State.{Masses}
-use Rattle.amr_ghost.specs.Messages.{CarriesMasses}
-use Rattle.amr_ghost.specs.Parts.{IsParted}
-use Rattle.amr_layout.specs.Surroundings.{around}
+use Rattle.amr_def.specs.Flux.{Fluxes, flux_at}
+use Rattle.amr_layout.specs.Surroundings.{around, Around}
+use Rattle.amr_layout.specs.declared.FlowTo.{FlowTo}
+use Rattle.amr_layout.specs.Adds.{flows_of}
+use Rattle.amr_layout.specs.LevelFlowLists.{flow_lists, flows_at}
+use Rattle.amr_layout.proofs.LevelFlowLists.{flows_here}
+use Rattle.amr_layout.proofs.Planned.{nth}
 use Rattle.amr_lots.specs.declared.lot.Lot.{Lot}
 use Rattle.amr_lots.specs.declared.lot.Workspace.{Workspace}
-use Rattle.amr_lots.specs.Filling.{HasValuesBy, HasValuesOrLevel}
-use Rattle.amr_lots.specs.Lots.{IsStepped}
-use Rattle.amr_lots.specs.Ready.{CanStep}
-use Rattle.amr_lots.specs.Stepping.{HasSteppedAlone}
+use Rattle.amr_lots.specs.Filling.{HasValuesBy, HasValuesOrLevel, AreFilled, HasFoundOuter}
+use Rattle.amr_lots.specs.Ready.{CanStep, HasFlowsIn}
+use Rattle.amr_lots.specs.Stepping.{HasSteppedAlone, HaveEdgeNets}
+use Rattle.amr_lots.specs.Lots.{AreEdgeFlows, AreReady, HasStepped, IsStepped, lot_total}
+use Rattle.amr_lots.specs.Runs.{run}
 use Rattle.amr_patch.specs.declared.levels.Level.{Level as Held}
 use Rattle.amr_patch.specs.declared.patches.Patch.{Patch}
 use Rattle.amr_patch.specs.Patches.{box, masses_in}
+use Rattle.amr_patch.proofs.Lookups.{same_default}
 use Rattle.amr_register.specs.declared.edges.EdgeCell.{EdgeCell}
-use Rattle.amr_register.specs.EdgeCells.{lists_of}
+use Rattle.amr_register.specs.EdgeCells.{lists_of, AreEdgesIn}
+use Rattle.amr_register.proofs.EdgeLists.{same_edges, zip_from}
+use Rattle.amr_register.proofs.EdgeNets.{nets_are}
 use Rattle.amr_advance.specs.declared.lots.Lots.{Lots}
-use Rattle.amr_advance.specs.Lots.{AreLots, AreMade, CarryMasses, IsOneLot, IsWholeLot, first_totals, is_one, totals_by}
+use Rattle.amr_advance.specs.Lots.{AreLots, AreMade, CarryMasses, IsOneLot, IsWholeLot, first_totals, is_one, totals_by, ServesRun}
 use Rattle.amr_advance.specs.Registers.{AreEdgesFor}
-use Rattle.amr_advance.specs.Steps.{AreFound, AreTotalsOf, HaveStepped}
-use Rattle.amr_advance.proofs.InLots.{IsInStep, totals_small}
-use Rattle.amr_advance.proofs.WholeRun.{alone_carries, one_carries}
-use Rattle.amr_advance.proofs.OneLot.{can_step, whole_again, whole_found, whole_stepped, whole_totals, whole_values}
+use Rattle.amr_advance.specs.Steps.{AreTotalsOf, HaveStepped, LotsMadeStep, AreFound}
+use Rattle.amr_advance.proofs.InLots.{IsInStep, totals_small, adds, all_inside, all_may, all_owned, all_room, all_show, fs_boxes, fs_count, run_flows, steps, totals_are}
+use Rattle.amr_advance.proofs.LotsAgain.{lots_again}
+use Rattle.amr_flows.specs.Laws.{plain_size}
+use Rattle.amr_flows.specs.Words.{level_total}
+use Rattle.amr_flux.specs.Rooms.{widest}
+use Rattle.amr_ghost.specs.Messages.{AreMessagesTo}
+use Rattle.amr_ghost.specs.declared.outer.OuterGhosts.{OuterGhosts}
+use Rattle.amr_phase.specs.Plans.{total}
+use Rattle.amr_advance.proofs.WholeRun.{alone_carries, one_carries, alone_messages, whole_run}
+use Rattle.amr_advance.proofs.Delivered.{can_fill}
+use Rattle.amr_advance.proofs.InDomain.{all_lie}
+use Rattle.amr_advance.proofs.LentEdges.{all_in}
+use Rattle.amr_advance.proofs.Served.{KeepsPlan, still_whole}
+
+-- A level that one lot is all of: the lot's workspace makes its step.
+
+module _ {p : Problem} {l : ℕ} {old : Masses} {ps : List Patch} {cells : List Cell} {next : Option Held} {t : Lots} (level : IsInStep p l old ps cells next t) (one : IsOneLot (around p l ps cells next) level.lots.parts t) (x0 : Box Lot) where
+  abbrev s : Around
+  s = around p l ps cells next
+
+  abbrev e : Fluxes
+  e = flux_at p l (masses_in ps) old
+
+  abbrev x : Workspace
+  x = (get_or t.lots.items 0 x0).value.workspace
+
+  of : IsWholeLot s t.each level.lots.parts (get_or t.lots.items 0 x0).value
+  of = one.lot x0
+
+  there : 0 < length t.lots.items
+  there = omega (arith, one.one)
+
+  serves : ServesRun s t.each 0 (length t.lots.items) level.lots.parts x
+  serves = subst (λ n. ServesRun s t.each 0 n level.lots.parts x) (sym one.one) of.serves
+
+  is_whole : run t.each 0 ps ≡ ps
+  is_whole = whole_run t.each ps (let n = level.lots.enough in omega (arith, n, ap (λ m. m * t.each) one.one))
+
+  messages : AreMessagesTo level.lots.parts t.each (length t.lots.items) 0 ps x.inbox.items
+  messages = subst (λ n. AreMessagesTo level.lots.parts t.each n 0 ps x.inbox.items) (sym one.one) (record {
+    count = of.serves.inbox.count;
+    copies = of.serves.inbox.copies;
+    own = of.serves.inbox.own;
+    packed = alone_messages of.serves.inbox t.each ps;
+  })
+
+  abbrev flows : Patch → List FlowTo
+  flows q = flows_of (around p l ps cells next) (box q)
+
+  -- its flows, a list for each patch
+  lists_are : flow_lists x.flows (length ps) ≡ run_flows level 0
+  lists_are =
+      ext_get_or [] (flow_lists x.flows (length ps)) (map flows ps) (length-map-range_with_len (flows_at x.flows) 0 (length ps) ∙ sym (length-map ps flows))
+      (λ i lt.
+      let below : i < length ps = omega (arith, lt, length-map-range_with_len (flows_at x.flows) 0 (length ps)) in
+      let q : Patch = nth ps i below in
+      get_or-map-range_with_len (flows_at x.flows) 0 (length ps) i i [] below (omega arith) ∙ flows_here s x.flows of.flows i below q ∙ sym (get_or-map flows ps i q [] below))
+      ∙ ap (map flows) (sym is_whole)
+
+  list_words : (i : ℕ) → All (λ (y : FlowTo). y.word < 2 + 2 * length cells) (flows_at x.flows i)
+  list_words i = All-take (λ (y : FlowTo). y.word < 2 + 2 * length cells) (slice_index x.flows.bounds.items (i + 1) - slice_index x.flows.bounds.items i) (drop (slice_index x.flows.bounds.items i) x.flows.flows.items) (All-drop (λ (y : FlowTo). y.word < 2 + 2 * length cells) (slice_index x.flows.bounds.items i) x.flows.flows.items of.words)
+
+  module _ (values : HasValuesOrLevel p l old x.outer) where
+    module _ (o : OuterGhosts) (fs : List Patch) (found : HasFoundOuter p l x.outer o) (filled : AreFilled x o ps fs) where
+      filled_run : AreFilled x o (run t.each 0 ps) fs
+      filled_run = subst (λ rs. AreFilled x o rs fs) (sym is_whole) filled
+
+      count_is : length fs ≡ length ps
+      count_is = fs_count level 0 there x serves messages o found values fs filled_run ∙ ap length is_whole
+
+      -- what all add to a word
+      pub word_is : (word : ℕ) → lot_total p l fs (flow_lists x.flows (length ps)) word ≡ level_total s (plain_size p l (masses_in ps) old) word
+      word_is word = (λ i. lot_total p l fs (lists_are i) word) ∙ totals_are level 0 there x serves messages o found values fs filled_run word ∙ ap (total (adds level word)) is_whole
+
+      pub is_ready : AreReady p l (widest x.room) (length x.totals.items) fs (flow_lists x.flows (length ps))
+      is_ready = record {
+        count = length-map-range_with_len (flows_at x.flows) 0 (length ps) ∙ sym count_is;
+        step = all_may level 0 there x serves messages o found values fs filled_run;
+        room = all_room level 0 there x serves messages o found values fs filled_run (widest x.room) serves.room;
+        flows = subst (AllZip AreEdgeFlows fs) (sym lists_are) (all_owned level 0 there x serves messages o found values fs filled_run);
+        words = λ i ys lt. subst (λ (zs : List FlowTo). All (λ (y : FlowTo). y.word < length x.totals.items) zs) (sym (get_or-map-range_with_len (flows_at x.flows) 0 (length ps) i i ys (omega (arith, lt, length-map-range_with_len (flows_at x.flows) 0 (length ps))) (omega arith)))
+            (λ j y below. let r = list_words i j y below in omega (arith, r, of.totals));
+        fits = λ word. let r = totals_small level word in omega (arith, word_is word, r);
+      }
+
+      pub steps_at : (rs : List Patch) → AllZip (HasStepped p l) fs rs → AllZip (IsStepped (flux_at p l (masses_in ps) old)) ps rs
+      steps_at rs h = zip_from (IsStepped e) ps rs (sym (length_all_zip (HasStepped p l) fs rs h) ∙ count_is) (λ i q d lt.
+          let below : i < length fs = omega (arith, lt, count_is) in
+          let place : 0 * t.each + i ≡ i = omega arith in
+          subst (λ (r : Patch). IsStepped e (get_or ps i q) r) (same_at i q d (omega (arith, below, length_all_zip (HasStepped p l) fs rs h)))
+          (subst (λ n. IsStepped e (get_or ps n q) (get_or rs i q)) place (steps level 0 there x serves messages o found values fs filled_run i q below (get_or rs i q) (AllZip-get_or (HasStepped p l) fs rs i q q h below))))
+        where
+          same_at : (i : ℕ) (q d : Patch) → i < length rs → get_or rs i q ≡ get_or rs i d
+          same_at i q d lt = same_default rs i q d lt
+
+      -- what flows into register cells
+      pub found_at : {es ds : List (Vec EdgeCell)} → AreEdgesFor (map box ps) (lists_of es) → HaveEdgeNets p l fs es ds → AreFound s old (lists_of es) (lists_of ds)
+      found_at {es = es} {ds = ds} fit h = by_count (length es) refl
+        where
+          boxes_in : 0 < length es → AllZip AreEdgesIn (map box fs) (lists_of es)
+          boxes_in some = subst (λ bs. AllZip AreEdgesIn bs (lists_of es)) (sym (fs_boxes level 0 there x serves messages o found values fs filled_run ∙ ap (map box) is_whole)) (all_in t.each ps es fit some)
+
+          no_lists : (vs : List (Vec EdgeCell)) → length vs ≡ 0 → vs ≡ []
+          no_lists [] n = refl
+          no_lists (v ∷ vs) n = absurd (omega (arith, n))
+
+          by_count : (n : ℕ) → length es ≡ n → AreFound s old (lists_of es) (lists_of ds)
+          by_count zero n =
+              let none : es ≡ [] = no_lists es n in
+              let after : ds ≡ [] = h.none n ∙ none in
+              subst (λ vs. AreFound s old (lists_of vs) (lists_of ds)) (sym none) (subst (λ vs. AreFound s old [] (lists_of vs)) (sym after) (record { same = tt; small = λ k d lt. absurd (omega (arith, lt)); nets = λ fine edges k d lt. absurd (omega (arith, lt)) }))
+          by_count (suc m) n =
+              let some : 0 < length es = omega (arith, n) in
+              record {
+                same = same_edges p l fs (lists_of es) (lists_of ds) (h.nets some);
+                small = h.small;
+                nets = λ fine edges. nets_are p l (masses_in ps) old fine fs (lists_of es) (lists_of ds) (all_show level 0 there x serves messages o found values fs filled_run) (all_inside level 0 there x serves messages o found values fs filled_run) (boxes_in some) edges (h.nets some);
+              }
+
+    -- so it may make the step of the level
+    pub can_step : {es : List (Vec EdgeCell)} → AreEdgesFor (map box ps) (lists_of es) → CanStep p l ps es x
+    can_step {es = es} fit = record {
+      inside = all_lie p l ps level.inside;
+      fill = can_fill level 0 there x serves ps (sym is_whole);
+      lists = λ some. all_in t.each ps es fit some;
+      flows = subst (HasFlowsIn x.flows x.sides.items) is_whole of.serves.flows;
+      ready = is_ready;
+    }
+
+    -- ---- afterwards
+
+    module _ {es ds : List (Vec EdgeCell)} {rs : List Patch} {after : Workspace} (h : HasSteppedAlone p l ps es x rs ds after) where
+      pub plan_after : KeepsPlan x after
+      plan_after = subst (KeepsPlan x) (sym h.begun.others) (record { layouts = refl; flows = refl; sides = refl; words = refl; totals = h.begun.count; copies = refl; spans = h.begun.outer.spans; places = λ q. h.begun.outer.places; room = h.begun.room; sizes = refl })
+
+      pub whole_stepped : AllZip (IsStepped (flux_at p l (masses_in ps) old)) ps rs
+      whole_stepped = steps_at after.outer h.filled h.begun.outer h.begun.filled rs h.stepped
+
+      pub whole_found : AreEdgesFor (map box ps) (lists_of es) → AreFound (around p l ps cells next) old (lists_of es) (lists_of ds)
+      whole_found fit = found_at after.outer h.filled h.begun.outer h.begun.filled fit h.begun.nets
+
+      pub whole_values : HasValuesBy p l old after.outer
+      whole_values = h.begun.outer.values old values
+
+      pub whole_totals : (word : ℕ) → slice_index after.totals.items word ≡ level_total (around p l ps cells next) (plain_size p l (masses_in ps) old) word
+      whole_totals word = h.begun.totals word ∙ word_is after.outer h.filled h.begun.outer h.begun.filled word
+
+      pub whole_again : (y : Lot) → y.workspace ≡ after → IsWholeLot (around p l ps cells next) t.each level.lots.parts y
+      whole_again y is = still_whole of y (subst (KeepsPlan x) (sym is) plan_after) (ap (λ (z : Workspace). z.outbox) (is ∙ h.begun.others)) (ap (λ (z : Workspace). z.inbox) (is ∙ h.begun.others))
 
 set_one : {A : Type 0} (xs : List A) (y : A) → length xs ≡ 1 → set xs 0 y ≡ y ∷ []
 set_one [] y e = absurd (omega (arith, e))
@@ -74,24 +230,12 @@ module _ {p : Problem} {l : ℕ} {old : Masses} {ps : List Patch} {cells : List 
       again : IsOneLot (around p l ps cells next) level.lots.parts u
       again = record { one = ap length now; lot = λ d. subst (λ (zs : List (Box Lot)). IsWholeLot (around p l ps cells next) t.each level.lots.parts (get_or zs 0 d).value) (sym now) (whole_again level one x0 values stepped y.value refl) }
 
-      lots_again : AreLots (around p l ps cells next) u
-      lots_again = record {
-        of_level = level.lots.of_level;
-        some = level.lots.some;
-        enough = subst (λ n. length ps ≤ n * t.each) (sym count) level.lots.enough;
-        small = level.lots.small;
-        many = subst (λ n. n ≤ 2 ^ 26) (sym count) level.lots.many;
-        edges = level.lots.edges;
-        plan = level.lots.plan;
-        planned = level.lots.planned;
-        parts = level.lots.parts;
-        parted = subst (λ n. IsParted level.lots.plan t.each n level.lots.parts) (sym count) level.lots.parted;
-        made = subst (λ b. AreMade b (around p l ps cells next) level.lots.parts u) (sym is) again;
-      }
+      lots_now : AreLots (around p l ps cells next) u
+      lots_now = lots_again (around p l ps cells next) t xs t.totals t.packed t.valued count level.lots (subst (λ b. AreMade b (around p l ps cells next) level.lots.parts u) (sym is) again)
 
-      pub have_stepped : HaveStepped (around p l ps cells next) old rs t (record t { lots = with_item t.lots 0 (with_value x0 (record lot { workspace = after })) })
+      have_stepped : HaveStepped (around p l ps cells next) old rs t (record t { lots = with_item t.lots 0 (with_value x0 (record lot { workspace = after })) })
       have_stepped = record {
-        lots = lots_again;
+        lots = lots_now;
         wanted = refl;
         carry = subst (CarryMasses (masses_in rs)) (sym now) (one_carries (masses_in rs) y (alone_carries (whole_again level one x0 values stepped y.value refl).serves.outbox (masses_in rs)));
         values = subst (All (λ (x : Box Lot). HasValuesBy p l old x.value.workspace.outer)) (sym now) (λ k d lt. first_values k d lt);
@@ -102,8 +246,5 @@ module _ {p : Problem} {l : ℕ} {old : Masses} {ps : List Patch} {cells : List 
           first_values : (k : ℕ) (d : Box Lot) → k < 1 → HasValuesBy p l old (get_or (y ∷ []) k d).value.workspace.outer
           first_values k d lt = subst (λ n. HasValuesBy p l old (get_or (y ∷ []) n d).value.workspace.outer) (let z : 0 ≡ k = omega (arith, lt) in z) (whole_values level one x0 values stepped)
 
-      pub all_stepped : AllZip (IsStepped (flux_at p l (masses_in ps) old)) ps rs
-      all_stepped = whole_stepped level one x0 values stepped
-
-      pub all_found : AreEdgesFor (map box ps) (lists_of es) → AreFound (around p l ps cells next) old (lists_of es) (lists_of ds)
-      all_found fit = whole_found level one x0 values stepped fit
+      pub have_made : AreEdgesFor (map box ps) (lists_of es) → LotsMadeStep (around p l ps cells next) old rs (lists_of es) (lists_of ds) t (record t { lots = with_item t.lots 0 (with_value x0 (record lot { workspace = after })) })
+      have_made fit = record { stepped = whole_stepped level one x0 values stepped; lots = have_stepped; edges = whole_found level one x0 values stepped fit }

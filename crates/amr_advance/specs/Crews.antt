@@ -4,6 +4,7 @@ use Rattle.amr_def.specs.declared.problem.Problem.{Problem}
 use Rattle.amr_workers.specs.TeamOf.{TeamOf}
 use Rattle.amr_lots.specs.declared.job.LevelWork.{LevelWork}
 use Rattle.amr_advance.specs.declared.crew.Workers.{Workers}
+use Rattle.amr_advance.specs.declared.regs.Crew.{Crew}
 
 -- a team for phases of this problem under this gate, of at most so many workers
 pub record IsTeamFor {G : Type 0} (p : Problem) (gate : G) (count : ℕ) (team : TeamOf LevelWork G) : Type 0 where
@@ -18,3 +19,10 @@ pub record MayRun {R G : Type 0} (admits : G → ℕ → ℕ → Type 0) (p : Pr
   pub few_workers : w.count ≤ 64
   pub gate : (worker task : ℕ) → worker < w.count → task < tasks → admits w.gate.now worker task
   pub team : IfSome w.team (IsTeamFor p w.gate.now w.count)
+
+-- a crew of one rank and from 1 to 64 workers, each of which the gate admits to each of at most so many tasks
+pub record MayWork {G : Type 0} (admits : G → ℕ → ℕ → Type 0) (gate : G) (tasks : ℕ) (crew : Crew) : Type 0 where
+  pub one_rank : crew.ranks ≡ 1
+  pub some_workers : 1 ≤ crew.workers
+  pub few_workers : crew.workers ≤ 64
+  pub admitted : (worker task : ℕ) → worker < crew.workers → task < tasks → admits gate worker task

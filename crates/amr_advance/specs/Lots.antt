@@ -33,7 +33,7 @@ use Rattle.amr_lots.specs.declared.lot.Lot.{Lot}
 use Rattle.amr_lots.specs.declared.lot.Workspace.{Workspace}
 use Rattle.amr_lots.specs.Filling.{HasValuesBy}
 use Rattle.amr_lots.specs.Ready.{HasFlowsIn}
-use Rattle.amr_lots.specs.Runs.{run}
+use Rattle.amr_lots.specs.Runs.{lot_count, run}
 use Rattle.amr_lots.specs.Works.{places_read}
 use Rattle.amr_patch.specs.declared.patches.Patch.{Patch}
 use Rattle.amr_patch.specs.Patches.{box}
@@ -125,11 +125,12 @@ abbrev pub AreMade : Bool → Around → FrameParts → Lots → Type 0
 AreMade true s parts t = IsOneLot s parts t
 AreMade false s parts t = AreSeveralLots s parts t
 
--- the lots of a level, in runs of as many patches each, by a plan of its frames in parts
+-- the lots of a level, as many as are wanted as far as its patches go, in runs of as many patches each, by a plan of its frames in parts
 pub record AreLots (s : Around) (t : Lots) : Type 0 where
   pub of_level : t.level ≡ s.level
   pub some : 0 < t.each
   pub enough : length s.patches ≤ length t.lots.items * t.each
+  pub count : 0 < length s.patches → length t.lots.items ≡ lot_count t.wanted (length s.patches)
   pub small : length s.patches ≤ 2 ^ 26
   pub many : length t.lots.items ≤ 2 ^ 26
   pub edges : total (λ q. edge_count (box q)) s.patches ≤ 2 ^ 30
@@ -152,29 +153,21 @@ pub record AreLotsFor (boxes : List Extent) (t : Lots) : Type 0 where
 abbrev pub CarryMasses : Masses → List (Box Lot) → Type 0
 CarryMasses M lots = All (λ x. All (CarriesMasses M) x.value.workspace.outbox.items) lots
 
--- where lots have packed their messages, those carry the masses M
-abbrev pub AreLotsCurrent : Masses → Lots → Type 0
-AreLotsCurrent M t = t.packed ≡ true → CarryMasses M t.lots.items
-
 -- a lot has the values of its outer ghost cells, where the next coarser level has the masses `old`, and no level is lent to it
 pub record HasValues (p : Problem) (l : ℕ) (old : Masses) (x : Box Lot) : Type 0 where
   pub values : HasValuesBy p l old x.value.workspace.outer
   pub not_lent : x.value.workspace.outer.coarser ≡ None
 
--- where lots have them, they are those
-abbrev pub AreLotsValued : Problem → ℕ → Masses → Lots → Type 0
-AreLotsValued p l old t = t.valued ≡ true → All (HasValues p l old) t.lots.items
+-- What lots keep of masses, where they keep any: the messages that they have packed for others carry the masses `own` of their level, and the
+-- values of their outer ghost cells are those where the next coarser level has the masses `old`.
+pub record AreLotsOf (p : Problem) (l : ℕ) (own old : Masses) (t : Lots) : Type 0 where
+  pub packed : t.packed ≡ true → CarryMasses own t.lots.items
+  pub valued : t.valued ≡ true → All (HasValues p l old) t.lots.items
 
--- lots serve what they served before, and keep what they have of masses
-pub record StillServe (t u : Lots) : Type 0 where
+-- lots serve what they served before, and what they keep of masses is of these, where the level's own have changed so
+pub record StillServe (change : Masses → Masses) (t u : Lots) : Type 0 where
   pub lots : (s : Around) → AreLots s t → AreLots s u
-  pub current : (M : Masses) → AreLotsCurrent M t → AreLotsCurrent M u
-  pub valued : (p : Problem) (l : ℕ) (old : Masses) → AreLotsValued p l old t → AreLotsValued p l old u
-
--- the same but for what they have packed for others
-pub record StillServeNew (t u : Lots) : Type 0 where
-  pub lots : (s : Around) → AreLots s t → AreLots s u
-  pub valued : (p : Problem) (l : ℕ) (old : Masses) → AreLotsValued p l old t → AreLotsValued p l old u
+  pub masses : (p : Problem) (l : ℕ) (own old : Masses) → AreLotsOf p l own old t → AreLotsOf p l (change own) old u
 
 -- ---- what flowed to words
 

@@ -60,7 +60,8 @@ pub record MayBeRun (p : Problem) (shape : Shape) (ws : List Work) : Type 0 wher
   pub begin : All (MayBegin p (planned shape ws)) ws
 
 -- a board of a phase of lots, before its first task is drawn, and its only seat
-pub record IsOpened (b : Basis) (l : ℕ) (duty : Duty) (p : Problem) (shape : Shape) (xs : List (Box Lot)) (board : BoardOf Work) (seat : Seat (Option Work) (View Work)) : Type 0 where
+pub record IsOpened (b : Basis) (l : ℕ) (duty : Duty) (p : Problem) (shape : Shape) (xs : List (Box Lot)) (board : BoardOf Work)
+    (seat : Seat (Option Work) (View Work)) : Type 0 where
   pub are : ArePieces b l duty xs board.pieces
   pub plan : board.plan ≡ planned shape board.pieces
   pub may : MayBeRun p shape board.pieces

@@ -1,21 +1,20 @@
 //! The masses that a level has before its step, by which both steps of the next finer one fill ghost cells (Berger and Colella 1989: time
 //! refinement). They are copied into a level on the same boxes. Where the level's patches are shared out in lots its workers copy them.
 
-ghost use Rattle.std.specs.Prelude.{◌≡◌, ℕ, IfSome, length, map};
+ghost use Rattle.std.specs.Prelude.{◌≡◌, IfSome, Some, length, map};
 ghost use Rattle.std.specs.List.{AllZip};
-ghost use Rattle.amr_def.specs.State.{Masses};
 ghost use Rattle.amr_patch.specs.Levels.{level_of, patches_of};
 ghost use Rattle.amr_patch.specs.Patches.{box};
 ghost use Rattle.amr_alike.specs.Copied.{IsCopied};
 ghost use Rattle.amr_lots.specs.declared.lot.Duty.TheVariants.{Keep};
 ghost use Rattle.amr_advance.specs.Crews.{MayRun};
-ghost use Rattle.amr_advance.specs.Kept.{IsCurrentLayout, IsKeptLayout, IsValued};
+ghost use Rattle.amr_advance.specs.Kept.{IsKeptLayout, StaysKept};
 ghost use Rattle.amr_advance.specs.Lots.{AreLotsFor, StillServe};
 
 use crate::crew::Workers;
 use crate::kept::KeptLayout;
 use crate::lots::Lots;
-use crate::phases::{Phase, basis_of, serve_lots};
+use crate::phases::{PhaseInput, basis_of, serve_lots};
 use amr_alike::{copy_masses, have_boxes};
 use amr_def::Problem;
 use amr_lots::{Duty, exchange_before, exchange_runs};
@@ -27,7 +26,7 @@ use std::thread::Threads;
 /// Has workers copy the masses of patches into others with the same boxes, each those of a lot. All else of lots and patches is as before.
 fn keep_in_lots<R: Threads + Wait + Sync, G: Gate + Sync>(
     workers: &mut Workers<'_, R, G>,
-    phase: Phase<'_>,
+    phase: PhaseInput<'_>,
     patches: &mut [Patch],
     before: &mut [Patch],
     lots: &mut Lots,
@@ -40,7 +39,7 @@ fn keep_in_lots<R: Threads + Wait + Sync, G: Gate + Sync>(
     ensures workers { workers.new ≡ workers.old }
     ensures patches { patches.new ≡ patches.old }
     ensures copied { AllZip IsCopied patches.old before.new }
-    ensures lots { StillServe lots.old lots.new }
+    ensures lots { StillServe (λ m. m) lots.old lots.new }
 {
     exchange_runs(patches, &mut lots.lots, lots.each);
     exchange_before(before, &mut lots.lots, lots.each);
@@ -66,14 +65,14 @@ fn keep_by_lots<R: Threads + Wait + Sync, G: Gate + Sync>(
     ensures patches { map box (patches_of before.new) ≡ map box (patches_of before.old) }
     ensures level { level_of level.new ≡ level_of level.old }
     ensures level_patches { patches_of level.new ≡ patches_of level.old }
-    ensures lots { StillServe lots.old lots.new }
+    ensures lots { StillServe (λ m. m) lots.old lots.new }
 {
     let order = level.order();
     let mut patches = level.take_patches();
     let before_order = before.order();
     let mut copies = before.take_patches();
     let basis = basis_of(p, &patches, None);
-    let phase = Phase {
+    let phase = PhaseInput {
         alloc: *patches.allocator(),
         problem: p,
         level: lots.level,
@@ -102,9 +101,7 @@ fn keep_by_layout<R: Threads + Wait + Sync, G: Gate + Sync>(
     ensures patches { map box (patches_of before.new) ≡ map box (patches_of before.old) }
     ensures level { level_of level.new ≡ level_of level.old }
     ensures level_patches { patches_of level.new ≡ patches_of level.old }
-    ensures kept { IsKeptLayout p.now layout.new }
-    ensures current { (M : Masses) → IsCurrentLayout M layout.old → IsCurrentLayout M layout.new }
-    ensures valued { (l : ℕ) (old : Masses) → IsValued p.now l old layout.old → IsValued p.now l old layout.new }
+    ensures kept { StaysKept (λ m. m) (Some layout.old) (Some layout.new) }
 {
     if !have_boxes(level.patches(), &layout.boxes) {
         return copy_masses(level, before);
@@ -134,9 +131,7 @@ pub fn keep_masses<R: Threads + Wait + Sync, G: Gate + Sync>(
     ensures patches { map box (patches_of before.new) ≡ map box (patches_of before.old) }
     ensures level { level_of level.new ≡ level_of level.old }
     ensures level_patches { patches_of level.new ≡ patches_of level.old }
-    ensures kept { IfSome kept.new (IsKeptLayout p.now) }
-    ensures current { (M : Masses) → IfSome kept.old (IsCurrentLayout M) → IfSome kept.new (IsCurrentLayout M) }
-    ensures valued { (l : ℕ) (old : Masses) → IfSome kept.old (IsValued p.now l old) → IfSome kept.new (IsValued p.now l old) }
+    ensures kept { StaysKept (λ m. m) kept.old kept.new }
 {
     match kept {
         Some(layout) => keep_by_layout(workers, p, level, before, layout),

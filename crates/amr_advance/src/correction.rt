@@ -2,12 +2,12 @@
 //! the patches of a lot. (Berger and Colella 1989: the coarse level is corrected at the edges of the finer one, and under it takes the
 //! finer one's values. AMReX: `Reflux`, `average_down`)
 
-ghost use Rattle.std.specs.Prelude.{◌≡◌, ◌*◌, ◌<◌, ◌^◌, ℕ, true, false, IfOk, IfSome, None, OnOk, Some, length, map, slice_index_or};
+ghost use Rattle.std.specs.Prelude.{◌≡◌, ◌*◌, ◌<◌, ◌^◌, ℕ, true, false, IfOk, IfSome, None, OnOk, Some, length, map, slice_index_or, if◌then◌else◌};
 ghost use Rattle.std.specs.Global.{Box as boxed};
 ghost use Rattle.std.specs.List.{All, AllZip};
 ghost use Rattle.amr_box.specs.declared.Cell.{Cell};
 ghost use Rattle.amr_def.specs.declared.problem.Problem.{Problem};
-ghost use Rattle.amr_def.specs.State.{Masses, children_mass};
+ghost use Rattle.amr_def.specs.State.{children_mass};
 ghost use Rattle.amr_lots.specs.Correcting.{AreCorrectedBy, FitsEntries, IsReady, finer_in, register_in, with_correction};
 ghost use Rattle.amr_lots.specs.declared.lot.Duty.TheVariants.{Correct};
 ghost use Rattle.amr_lots.specs.declared.lot.Lot.{Lot as lot};
@@ -17,13 +17,13 @@ ghost use Rattle.amr_register.specs.Registers.{HasEdgesOf, IsPlaced};
 ghost use Rattle.amr_transfer.specs.Sums.{AreCoarsenable};
 ghost use Rattle.amr_advance.specs.Correction.{IsCorrectedLevel, IsLentPart, IsPartFrom, IsTriedLevel, KeepsAllButCorrection, MayCorrectLevel};
 ghost use Rattle.amr_advance.specs.Crews.{MayRun};
-ghost use Rattle.amr_advance.specs.Kept.{IsCurrentLayout, IsKeptLayout, IsValued};
-ghost use Rattle.amr_advance.specs.Lots.{AreLotsFor, AreLotsCurrent, StillServe, StillServeNew};
+ghost use Rattle.amr_advance.specs.Kept.{IsKeptLayout, StaysKept};
+ghost use Rattle.amr_advance.specs.Lots.{AreLotsFor, StillServe};
 
 use crate::crew::Workers;
-use crate::kept::KeptLayout;
+use crate::kept::{KeptLayout, Stale, forget};
 use crate::lots::Lots;
-use crate::phases::{Phase, basis_of, serve_lots};
+use crate::phases::{PhaseInput, basis_of, serve_lots};
 use amr_alike::have_boxes;
 use amr_causes::NoMemory;
 use amr_def::Problem;
@@ -83,7 +83,7 @@ fn take_back(lots: &mut [Box<Lot>])
 /// lots. Else all is as before.
 fn correct_in_lots<R: Threads + Wait + Sync, G: Gate + Sync>(
     workers: &mut Workers<'_, R, G>,
-    phase: Phase<'_>,
+    phase: PhaseInput<'_>,
     patches: &mut [Patch],
     whole: &Correction,
     lots: &mut Lots,
@@ -99,9 +99,7 @@ fn correct_in_lots<R: Threads + Wait + Sync, G: Gate + Sync>(
     ensures workers { workers.new ≡ workers.old }
     ensures corrected { result ≡ true → AreCorrectedBy whole.now patches.old patches.new }
     ensures same { result ≡ false → patches.new ≡ patches.old }
-    ensures lots { StillServeNew lots.old lots.new }
-    ensures current { result ≡ true → AreLotsCurrent (masses_in patches.new) lots.new }
-    ensures still_current { result ≡ false → StillServe lots.old lots.new }
+    ensures lots { StillServe (λ own. (if result then masses_in patches.new else own)) lots.old lots.new }
 {
     match lend(&mut lots.lots, lots.each, whole) {
         Err(_) => {
@@ -197,15 +195,13 @@ fn correct_by_workers<R: Threads + Wait + Sync, G: Gate + Sync>(
     ensures tried { IfOk result (λ x. IsTriedLevel x.done register finer.old level.old level.new) }
     ensures finer { OnOk result (level_of finer.new ≡ level_of finer.old) }
     ensures finer_patches { OnOk result (patches_of finer.new ≡ patches_of finer.old) }
-    ensures lots { OnOk result (StillServeNew lots.old lots.new) }
-    ensures current { IfOk result (λ x. x.done ≡ true → AreLotsCurrent (level_of level.new).masses lots.new) }
-    ensures still_current { IfOk result (λ x. x.done ≡ false → StillServe lots.old lots.new) }
+    ensures lots { IfOk result (λ x. StillServe (λ own. (if x.done then (level_of level.new).masses else own)) lots.old lots.new) }
 {
     let order = level.order();
     let mut patches = level.take_patches();
     let whole = correction_by(*patches.allocator(), register, finer)?;
     let basis = basis_of(p, &patches, None);
-    let phase = Phase {
+    let phase = PhaseInput {
         alloc: *patches.allocator(),
         problem: p,
         level: lots.level,
@@ -235,10 +231,7 @@ fn correct_by_layout<R: Threads + Wait + Sync, G: Gate + Sync>(
     ensures tried { IfOk result (λ x. IsTriedLevel x.done register finer.old level.old level.new) }
     ensures finer { OnOk result (level_of finer.new ≡ level_of finer.old) }
     ensures finer_patches { OnOk result (patches_of finer.new ≡ patches_of finer.old) }
-    ensures kept { OnOk result (IfSome kept.new (IsKeptLayout p.now)) }
-    ensures current { IfOk result (λ x. x.done ≡ true → IfSome kept.new (IsCurrentLayout (level_of level.new).masses)) }
-    ensures still_current { IfOk result (λ x. x.done ≡ false → (M : Masses) → IfSome kept.old (IsCurrentLayout M) → IfSome kept.new (IsCurrentLayout M)) }
-    ensures valued { OnOk result ((l : ℕ) (old : Masses) → IfSome kept.old (IsValued p.now l old) → IfSome kept.new (IsValued p.now l old)) }
+    ensures kept { IfOk result (λ x. StaysKept (λ own. (if x.done then (level_of level.new).masses else own)) kept.old kept.new) }
 {
     let Some(layout) = kept else {
         return Ok(not_done(register));
@@ -250,17 +243,6 @@ fn correct_by_layout<R: Threads + Wait + Sync, G: Gate + Sync>(
         return Ok(not_done(register));
     }
     correct_by_workers(workers, p, level, register, finer, &mut layout.lots)
-}
-
-/// Tells what is kept of a level, where something is, that its masses changed otherwise than by its step.
-fn forget_masses(kept: &mut Option<KeptLayout>)
-    ensures kept { (q : Problem) → IfSome kept.old (IsKeptLayout q) → IfSome kept.new (IsKeptLayout q) }
-    ensures current { (M : Masses) → IfSome kept.new (IsCurrentLayout M) }
-    ensures valued { (q : Problem) (l : ℕ) (old : Masses) → IfSome kept.old (IsValued q l old) → IfSome kept.new (IsValued q l old) }
-{
-    if let Some(layout) = kept {
-        layout.masses_changed();
-    }
 }
 
 /// Gives each register cell of a level its entry, and each covered cell the sum of the masses of its children: by workers where `kept`, what
@@ -287,9 +269,7 @@ pub fn correct_kept<R: Threads + Wait + Sync, G: Gate + Sync>(
     ensures corrected { OnOk result (IsCorrectedLevel register finer.old level.old level.new) }
     ensures finer { OnOk result (level_of finer.new ≡ level_of finer.old) }
     ensures finer_patches { OnOk result (patches_of finer.new ≡ patches_of finer.old) }
-    ensures kept { OnOk result (IfSome kept.new (IsKeptLayout p.now)) }
-    ensures current { OnOk result (IfSome kept.new (IsCurrentLayout (level_of level.new).masses)) }
-    ensures valued { OnOk result ((l : ℕ) (old : Masses) → IfSome kept.old (IsValued p.now l old) → IfSome kept.new (IsValued p.now l old)) }
+    ensures kept { OnOk result (StaysKept (λ own. (level_of level.new).masses) kept.old kept.new) }
 {
     let corrected = correct_by_layout(workers, p, level, register, finer, kept)?;
     if corrected.done {
@@ -297,6 +277,10 @@ pub fn correct_kept<R: Threads + Wait + Sync, G: Gate + Sync>(
     }
     corrected.register.reflux(level);
     sum_up(finer, level);
-    forget_masses(kept);
+    let stale = Stale {
+        own: true,
+        coarser: false,
+    };
+    forget(kept, stale);
     Ok(corrected.register)
 }

@@ -30,31 +30,7 @@ pub struct Workers<'a, R, G: Gate> {
     pub team: Option<Team<'a, Work, LevelWork<'a>, G>>,
 }
 
-/// Has threads that are made for it do all tasks of a board, and closes it.
-fn run_anew<R: Threads + Sync, G: Gate + Sync>(
-    workers: &Workers<'_, R, G>,
-    p: &Problem,
-    board: Board<Work>,
-    seat: Seat<Work>,
-) -> Ended<Work>
-    requires seat { IsSeatOf board seat }
-    requires none { HoldsNone (view seat) }
-    requires here { (view seat).past ≡ false }
-    requires alone { (view seat).share ≡ 2 ^ 32 }
-    requires ready { (t : ℕ) (w : piece) → get_elem? board.pieces t ≡ some w → MayBegin p.now board.plan w }
-    requires crew { MayRun G.admits p.now (length board.plan.tasks) workers.now }
-    ensures shape { (result.places ≡ board.plan.places) × (result.registers ≡ board.plan.words) }
-    ensures totals { (w : ℕ) → w < board.plan.words → total_of result w ≡ planned_total board.plan w }
-    ensures faces { (place : ℕ) → place < board.plan.places → face_of result place ≡ planned_face board.plan place }
-    ensures pieces { (t : ℕ) (w : piece) → get_elem? board.pieces t ≡ some w → (v : piece) × StandsFor w v × (get_elem? result.pieces t ≡ some (Some v)) }
-{
-    let count = workers.count.min(board.tasks()).max(1);
-    let job = LevelWork { problem: p };
-    let seat = run_phase(workers.runtime, &board, seat, &job, workers.gate, count);
-    board.close(seat)
-}
-
-/// Has workers do all tasks of a board, and closes it: the team, where there is one.
+/// Has workers do all tasks of a board, and closes it: the team, where there is one, else threads that are made for it.
 pub(crate) fn run_board<R: Threads + Wait + Sync, G: Gate + Sync>(
     workers: &mut Workers<'_, R, G>,
     alloc: Global,
@@ -76,6 +52,11 @@ pub(crate) fn run_board<R: Threads + Wait + Sync, G: Gate + Sync>(
 {
     match &mut workers.team {
         Some(team) => team.run_phase(workers.runtime, alloc, board, seat),
-        None => run_anew(workers, p, board, seat),
+        None => {
+            let count = workers.count.min(board.tasks()).max(1);
+            let job = LevelWork { problem: p };
+            let last = run_phase(workers.runtime, &board, seat, &job, workers.gate, count);
+            board.close(last)
+        }
     }
 }

@@ -1,6 +1,6 @@
 //! What a level's step stands on that depends on boxes alone: worked out once, and kept until boxes change.
 
-ghost use Rattle.std.specs.Prelude.{◌≡◌, ◌≤◌, ◌^◌, ℕ, true, List, length, map, is_some, IfOk, IfSome, IsTrue};
+ghost use Rattle.std.specs.Prelude.{◌≡◌, ◌<◌, ◌≤◌, ◌^◌, ℕ, true, List, length, map, is_some, IfOk, IfSome, IsTrue};
 ghost use Rattle.std.specs.List.{All};
 ghost use Rattle.std.specs.Option.{option_copied};
 ghost use Rattle.amr_box.specs.declared.Cell.{Cell};
@@ -13,10 +13,11 @@ ghost use Rattle.amr_layout.specs.Adds.{HasRegisterCells};
 ghost use Rattle.amr_layout.specs.Grounds.{has_open_side};
 ghost use Rattle.amr_layout.specs.Surroundings.{finer_masses};
 ghost use Rattle.amr_ghost.specs.Frames.{AreInDomain};
-ghost use Rattle.amr_advance.specs.Kept.{IsCurrentLayout, IsKeptLayout, IsLaidOut, IsValued};
+ghost use Rattle.amr_lots.specs.Runs.{lot_count};
+ghost use Rattle.amr_advance.specs.Kept.{Forgets, IsKeptLayout, IsKeptOf, IsLaidOut, ServesLevel};
 ghost use Rattle.amr_advance.specs.Steps.{around_of, coarser_masses};
 
-use crate::level::Given;
+use crate::level::StepInput;
 use crate::lots::{Lots, make_lots};
 use amr_alike::{boxes_of, have_boxes};
 use amr_box::{Bx, Cell};
@@ -46,25 +47,21 @@ pub struct KeptLayout {
     pub lots: Lots,
 }
 
-impl KeptLayout {
-    /// Tells that masses of the level changed otherwise than by its step. What was worked out from the masses of before, which is what
-    /// lots have packed for others, is worked out anew at the next step.
-    pub fn masses_changed(&mut self)
-        ensures kept { (p : Problem) → IsKeptLayout p self.old → IsKeptLayout p self.new }
-        ensures current { (M : Masses) → IsCurrentLayout M self.new }
-        ensures valued { (p : Problem) (l : ℕ) (old : Masses) → IsValued p l old self.old → IsValued p l old self.new }
-    {
-        self.lots.packed = false;
-    }
+/// Which masses changed otherwise than by the level's own step: those of the level, those of the next coarser one.
+#[derive(Clone, Copy)]
+pub struct Stale {
+    pub own: bool,
+    pub coarser: bool,
+}
 
-    /// Tells that masses of the next coarser level changed, by which ghost cells get their values. These are worked out anew at the next
-    /// step.
-    pub fn coarser_changed(&mut self)
-        ensures kept { (p : Problem) → IsKeptLayout p self.old → IsKeptLayout p self.new }
-        ensures current { (M : Masses) → IsCurrentLayout M self.old → IsCurrentLayout M self.new }
-        ensures valued { (p : Problem) (l : ℕ) (old : Masses) → IsValued p l old self.new }
-    {
-        self.lots.valued = false;
+/// Forgets what is kept of stale masses, where something is. That is what lots have packed for others of the level's own, and the values of
+/// ghost cells by the coarser level's. It is worked out anew at the next step.
+pub fn forget(kept: &mut Option<KeptLayout>, stale: Stale)
+    ensures { Forgets stale kept.old kept.new }
+{
+    if let Some(layout) = kept {
+        layout.lots.packed &= !stale.own;
+        layout.lots.valued &= !stale.coarser;
     }
 }
 
@@ -133,8 +130,9 @@ fn finer_boxes(alloc: Global, finer: Option<&Level>) -> Result<Vec<Bx>, NoMemory
 }
 
 /// Whether a layout that is kept is that of these patches.
-fn serves(kept: &KeptLayout, given: Given<'_>, patches: &[Patch], wanted: usize) -> bool
-    ensures { IsTrue result → IsKeptLayout given.entry.problem.now kept.now → IsLaidOut (around_of given.entry patches.now) kept.now }
+fn serves(kept: &KeptLayout, given: StepInput<'_>, patches: &[Patch], wanted: usize) -> bool
+    ensures laid_out { IsTrue result → IsKeptLayout given.entry.problem.now kept.now → IsLaidOut (around_of given.entry patches.now) kept.now }
+    ensures wanted { IsTrue result → kept.now.lots.wanted ≡ wanted }
 {
     if kept.lots.wanted != wanted {
         return false;
@@ -154,7 +152,7 @@ fn serves(kept: &KeptLayout, given: Given<'_>, patches: &[Patch], wanted: usize)
 /// Lays out the step of these patches anew, with what old lots leave as far as it goes.
 fn lay_out_anew<R: Threads + Sync>(
     rt: &R,
-    given: Given<'_>,
+    given: StepInput<'_>,
     order: Order,
     patches: &[Patch],
     wanted: usize,
@@ -165,9 +163,8 @@ fn lay_out_anew<R: Threads + Sync>(
     requires apart { ArePatchesApart patches.now }
     requires inside { AreInDomain (domain given.problem.now given.level) patches.now }
     requires cells { HasRegisterCells (around_of given patches.now) }
-    ensures laid_out { IfOk result (IsLaidOut (around_of given.entry patches.now)) }
-    ensures current { IfOk result (λ k. (M : Masses) → IsCurrentLayout M k) }
-    ensures valued { IfOk result (λ k. (p : Problem) (l : ℕ) (old : Masses) → IsValued p l old k) }
+    ensures layout { IfOk result (λ k. (own old : Masses) → ServesLevel (around_of given.entry patches.now) own old k) }
+    ensures count { IfOk result (λ k. 0 < length patches.now → length k.lots.lots.items ≡ lot_count wanted (length patches.now)) }
 {
     let alloc = given.alloc;
     let starts = starts_of(alloc, patches)?;
@@ -222,11 +219,11 @@ fn lots_from(layout: KeptLayout) -> Vec<Box<Lot>> {
     lots
 }
 
-/// The layout of the step of these patches: the one that is kept, where it serves, else a new one. None is
+/// The layout of the step of these patches, in as many lots as are wanted: the one that is kept, where it serves, else a new one. None is
 /// kept afterwards.
 pub fn layout_for<R: Threads + Sync>(
     rt: &R,
-    given: Given<'_>,
+    given: StepInput<'_>,
     order: Order,
     patches: &[Patch],
     wanted: usize,
@@ -237,12 +234,9 @@ pub fn layout_for<R: Threads + Sync>(
     requires apart { ArePatchesApart patches.now }
     requires inside { AreInDomain (domain given.problem.now given.level) patches.now }
     requires cells { HasRegisterCells (around_of given patches.now) }
-    requires kept { IfSome kept.old (IsKeptLayout given.problem.now) }
-    requires current { IfSome kept.old (IsCurrentLayout (masses_in patches.now)) }
-    requires valued { IfSome kept.old (IsValued given.problem.now given.level (coarser_masses given)) }
-    ensures laid_out { IfOk result (IsLaidOut (around_of given.entry patches.now)) }
-    ensures current { IfOk result (IsCurrentLayout (masses_in patches.now)) }
-    ensures valued { IfOk result (IsValued given.entry.problem.now given.entry.level (coarser_masses given.entry)) }
+    requires kept { IfSome kept.old (IsKeptOf given.problem.now given.level (masses_in patches.now) (coarser_masses given)) }
+    ensures layout { IfOk result (ServesLevel (around_of given.entry patches.now) (masses_in patches.now) (coarser_masses given.entry)) }
+    ensures count { IfOk result (λ k. 0 < length patches.now → length k.lots.lots.items ≡ lot_count wanted (length patches.now)) }
     ensures kept { kept.new ≡ None }
 {
     let Some(layout) = kept.take() else {

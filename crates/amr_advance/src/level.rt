@@ -3,7 +3,6 @@
 ghost use Rattle.std.specs.Prelude.{◌≡◌, ◌*◌, ◌<◌, ◌≤◌, ◌^◌, ℕ, [], List, true, false, IfOk, OnOk, OnErr, length, map, slice_index_or, vec_capacity};
 ghost use Rattle.std.specs.List.{All, AllZip};
 ghost use Rattle.std.specs.Global.{Box as boxed};
-ghost use Rattle.std.specs.Option.{option_copied};
 ghost use Rattle.amr_lots.specs.Ready.{CanStep};
 ghost use Rattle.amr_lots.specs.Runs.{KeepAllButEdges, run};
 ghost use Rattle.amr_lots.specs.Serving.{HasSent, MaySend};
@@ -13,19 +12,18 @@ ghost use Rattle.amr_lots.specs.declared.lot.Lot.{Lot as lot};
 ghost use Rattle.amr_patch.specs.Patches.{box, masses_in};
 ghost use Rattle.amr_register.specs.EdgeCells.{SameEdges, lists_of};
 ghost use Rattle.amr_advance.specs.Crews.{MayRun};
-ghost use Rattle.amr_advance.specs.Kept.{IsCurrentLayout, IsLaidOut, IsValued};
-ghost use Rattle.amr_advance.specs.Lots.{AreLots, AreLotsCurrent, AreLotsValued, is_one};
-ghost use Rattle.amr_advance.specs.Outer.{IsSharedOf};
+ghost use Rattle.amr_advance.specs.Kept.{ServesLevel};
+ghost use Rattle.amr_advance.specs.Lots.{AreLots, AreLotsOf, is_one};
 ghost use Rattle.amr_advance.specs.Handing.{HaveBeenHanded};
-ghost use Rattle.amr_advance.specs.Phases.{HasAsMany, HaveMadeStep, IsBasisOf, IsOpened};
+ghost use Rattle.amr_advance.specs.Phases.{HasAsMany, HaveMadeStep, IsOpened};
 ghost use Rattle.amr_advance.specs.Registers.{AreEdgesFor};
-ghost use Rattle.amr_advance.specs.Steps.{AreFound, AreStepped, CanMakeStep, HasMadeStep, HaveSettled, HaveStepped, MayStepLevel, around_of, coarser_masses};
+ghost use Rattle.amr_advance.specs.Steps.{CanMakeStep, HasMadeStep, LotsMadeStep, HaveSettled, MayMakeStep, MayStepLevel, around_of, coarser_masses};
 
 use crate::crew::Workers;
 use crate::kept::KeptLayout;
 use crate::lots::{Lots, is_one};
 use crate::outer::{ready_outer, take_back};
-use crate::phases::{Phase, open_lots, run_step, serve_lots};
+use crate::phases::{PhaseInput, open_lots, run_step, serve_lots};
 use amr_board::{Board, Seat};
 use amr_box::Cell;
 use amr_causes::NoMemory;
@@ -45,7 +43,7 @@ use std::thread::Threads;
 /// next coarser level with the masses before its step. There are the next finer level, and the cells of the coarser
 /// level's flux register. `shared` is the next coarser level again, where workers can have a share of it.
 #[derive(Clone, Copy)]
-pub struct Given<'a> {
+pub struct StepInput<'a> {
     pub alloc: Global,
     pub problem: &'a Problem,
     pub level: u32,
@@ -58,13 +56,13 @@ pub struct Given<'a> {
 }
 
 /// The phase of the level's lots in which they do this.
-fn phase_of(given: Given<'_>, duty: Duty) -> Phase<'_>
+fn phase_of(given: StepInput<'_>, duty: Duty) -> PhaseInput<'_>
     ensures problem { result.problem.now ≡ given.entry.problem.now }
     ensures level { result.level ≡ given.entry.level }
     ensures duty { result.duty ≡ duty }
     ensures basis { result.basis.now ≡ given.entry.basis.now }
 {
-    Phase {
+    PhaseInput {
         alloc: given.alloc,
         problem: given.problem,
         level: given.level,
@@ -94,7 +92,7 @@ fn exchange_lists(edges: &mut [Vec<EdgeCell>], lots: &mut [Box<Lot>], size: usiz
 /// Has the masses packed that other lots need, where that was not done at the end of the last step or of the correction after it.
 fn pack_lots<R: Threads + Wait + Sync, G: Gate + Sync>(
     workers: &mut Workers<'_, R, G>,
-    given: Given<'_>,
+    given: StepInput<'_>,
     lots: &mut Lots,
 )
     requires problem { given.basis.now.problem.value ≡ given.problem.now }
@@ -116,7 +114,7 @@ fn pack_lots<R: Threads + Wait + Sync, G: Gate + Sync>(
 /// A level without patches has no task.
 fn step_by_one<G: Gate>(
     gate: &G,
-    given: Given<'_>,
+    given: StepInput<'_>,
     patches: &mut [Patch],
     edges: &mut [Vec<EdgeCell>],
     workspace: &mut Workspace,
@@ -136,7 +134,7 @@ fn step_by_one<G: Gate>(
 /// The same for the lots of the level, of which there is one.
 fn step_whole<G: Gate>(
     gate: &G,
-    given: Given<'_>,
+    given: StepInput<'_>,
     patches: &mut [Patch],
     edges: &mut [Vec<EdgeCell>],
     lots: &mut Lots,
@@ -146,9 +144,8 @@ fn step_whole<G: Gate>(
     requires one { is_one lots.old ≡ true }
     requires edges { AreEdgesFor (map box patches.old) (lists_of edges.old) }
     requires gate { 0 < length patches.old → G.admits gate.now 0 0 }
-    ensures stepped { AreStepped (around_of given.entry patches.old) (coarser_masses given.entry) patches.new }
-    ensures lots { HaveStepped (around_of given.entry patches.old) (coarser_masses given.entry) patches.new lots.old lots.new }
-    ensures edges { AreFound (around_of given.entry patches.old) (coarser_masses given.entry) (lists_of edges.old) (lists_of edges.new) }
+    ensures { LotsMadeStep (around_of given.entry patches.old) (coarser_masses given.entry) patches.new (lists_of edges.old) (lists_of edges.new)
+        lots.old lots.new }
 {
     step_by_one(gate, given, patches, edges, &mut lots.lots[0].workspace);
 }
@@ -158,13 +155,12 @@ fn step_whole<G: Gate>(
 /// All memory of the step is taken here: if allocation fails the lots are back in their list, with what they were handed.
 pub fn open_step<R: Threads + Wait + Sync, G: Gate + Sync>(
     workers: &mut Workers<'_, R, G>,
-    given: Given<'_>,
+    given: StepInput<'_>,
     patches: &mut [Patch],
     edges: &mut [Vec<EdgeCell>],
     lots: &mut Lots,
 ) -> Result<(Board<Work>, Seat<Work>), NoMemory>
-    requires level { MayStepLevel (around_of given patches.old) (coarser_masses given) }
-    requires basis { IsBasisOf given.problem.now patches.old (option_copied given.old) given.basis.now }
+    requires step { MayMakeStep given patches.old }
     requires lots { CanMakeStep (around_of given patches.old) (coarser_masses given) lots.old }
     requires several { is_one lots.old ≡ false }
     requires edges { AreEdgesFor (map box patches.old) (lists_of edges.old) }
@@ -188,13 +184,12 @@ pub fn open_step<R: Threads + Wait + Sync, G: Gate + Sync>(
 /// keep. If allocation fails these are as they were.
 fn run_in_lots<R: Threads + Wait + Sync, G: Gate + Sync>(
     workers: &mut Workers<'_, R, G>,
-    given: Given<'_>,
+    given: StepInput<'_>,
     patches: &mut [Patch],
     edges: &mut [Vec<EdgeCell>],
     lots: &mut Lots,
 ) -> Result<(), NoMemory>
-    requires level { MayStepLevel (around_of given patches.old) (coarser_masses given) }
-    requires basis { IsBasisOf given.problem.now patches.old (option_copied given.old) given.basis.now }
+    requires step { MayMakeStep given patches.old }
     requires lots { CanMakeStep (around_of given patches.old) (coarser_masses given) lots.old }
     requires several { is_one lots.old ≡ false }
     requires edges { AreEdgesFor (map box patches.old) (lists_of edges.old) }
@@ -218,21 +213,19 @@ fn run_in_lots<R: Threads + Wait + Sync, G: Gate + Sync>(
 /// Makes a step of the patches of a level by several lots, as a phase of a board, and takes the patches and the lists of register cells back.
 fn step_in_lots<R: Threads + Wait + Sync, G: Gate + Sync>(
     workers: &mut Workers<'_, R, G>,
-    given: Given<'_>,
+    given: StepInput<'_>,
     patches: &mut [Patch],
     edges: &mut [Vec<EdgeCell>],
     lots: &mut Lots,
 ) -> Result<(), NoMemory>
-    requires level { MayStepLevel (around_of given patches.old) (coarser_masses given) }
-    requires basis { IsBasisOf given.problem.now patches.old (option_copied given.old) given.basis.now }
+    requires step { MayMakeStep given patches.old }
     requires lots { CanMakeStep (around_of given patches.old) (coarser_masses given) lots.old }
     requires several { is_one lots.old ≡ false }
     requires edges { AreEdgesFor (map box patches.old) (lists_of edges.old) }
     requires crew { MayRun G.admits given.problem.now (length patches.old) workers.old }
     ensures workers { workers.new ≡ workers.old }
-    ensures stepped { OnOk result (AreStepped (around_of given.entry patches.old) (coarser_masses given.entry) patches.new) }
-    ensures lots { OnOk result (HaveStepped (around_of given.entry patches.old) (coarser_masses given.entry) patches.new lots.old lots.new) }
-    ensures edges { OnOk result (AreFound (around_of given.entry patches.old) (coarser_masses given.entry) (lists_of edges.old) (lists_of edges.new)) }
+    ensures made { OnOk result (LotsMadeStep (around_of given.entry patches.old) (coarser_masses given.entry) patches.new (lists_of edges.old)
+        (lists_of edges.new) lots.old lots.new) }
     ensures same { OnErr result (patches.new ≡ patches.old) }
     ensures same_edges { OnErr result (SameEdges (lists_of edges.old) (lists_of edges.new)) }
 {
@@ -245,20 +238,18 @@ fn step_in_lots<R: Threads + Wait + Sync, G: Gate + Sync>(
 /// Makes a step of the patches of a level by its lots: by one that is all of it, or by several.
 fn make_step<R: Threads + Wait + Sync, G: Gate + Sync>(
     workers: &mut Workers<'_, R, G>,
-    given: Given<'_>,
+    given: StepInput<'_>,
     patches: &mut [Patch],
     edges: &mut [Vec<EdgeCell>],
     lots: &mut Lots,
 ) -> Result<(), NoMemory>
-    requires level { MayStepLevel (around_of given patches.old) (coarser_masses given) }
-    requires basis { IsBasisOf given.problem.now patches.old (option_copied given.old) given.basis.now }
+    requires step { MayMakeStep given patches.old }
     requires lots { CanMakeStep (around_of given patches.old) (coarser_masses given) lots.old }
     requires edges { AreEdgesFor (map box patches.old) (lists_of edges.old) }
     requires crew { MayRun G.admits given.problem.now (length patches.old) workers.old }
     ensures workers { workers.new ≡ workers.old }
-    ensures stepped { OnOk result (AreStepped (around_of given.entry patches.old) (coarser_masses given.entry) patches.new) }
-    ensures lots { OnOk result (HaveStepped (around_of given.entry patches.old) (coarser_masses given.entry) patches.new lots.old lots.new) }
-    ensures edges { OnOk result (AreFound (around_of given.entry patches.old) (coarser_masses given.entry) (lists_of edges.old) (lists_of edges.new)) }
+    ensures made { OnOk result (LotsMadeStep (around_of given.entry patches.old) (coarser_masses given.entry) patches.new (lists_of edges.old)
+        (lists_of edges.new) lots.old lots.new) }
     ensures same { OnErr result (patches.new ≡ patches.old) }
     ensures same_edges { OnErr result (SameEdges (lists_of edges.old) (lists_of edges.new)) }
 {
@@ -270,13 +261,11 @@ fn make_step<R: Threads + Wait + Sync, G: Gate + Sync>(
 }
 
 /// Readies the lots of a level for its step: each has the values of its outer ghost cells, or a level by which it can find them.
-pub fn ready_lots(given: Given<'_>, patches: &[Patch], lots: &mut Lots)
-    requires level { MayStepLevel (around_of given patches.now) (coarser_masses given) }
+pub fn ready_lots(given: StepInput<'_>, patches: &[Patch], lots: &mut Lots)
+    requires step { MayMakeStep given patches.now }
     requires lots { AreLots (around_of given patches.now) lots.old }
-    requires current { AreLotsCurrent (masses_in patches.now) lots.old }
-    requires valued { AreLotsValued given.problem.now given.level (coarser_masses given) lots.old }
-    requires shared { IsSharedOf given.old given.shared }
-    ensures ready { CanMakeStep (around_of given.entry patches.now) (coarser_masses given.entry) lots.new }
+    requires masses { AreLotsOf given.problem.now given.level (masses_in patches.now) (coarser_masses given) lots.old }
+    ensures { CanMakeStep (around_of given.entry patches.now) (coarser_masses given.entry) lots.new }
 {
     if lots.valued {
         return;
@@ -300,17 +289,13 @@ fn settle_lots(lots: &mut Lots)
 /// All memory whose lack is a refusal is taken before the first task is begun. If allocation fails the patches are as before.
 pub(crate) fn run_level<R: Threads + Wait + Sync, G: Gate + Sync>(
     workers: &mut Workers<'_, R, G>,
-    given: Given<'_>,
+    given: StepInput<'_>,
     patches: &mut [Patch],
     edges: &mut [Vec<EdgeCell>],
     layout: &mut KeptLayout,
 ) -> Result<(), NoMemory>
-    requires level { MayStepLevel (around_of given patches.old) (coarser_masses given) }
-    requires basis { IsBasisOf given.problem.now patches.old (option_copied given.old) given.basis.now }
-    requires layout { IsLaidOut (around_of given patches.old) layout.old }
-    requires current { IsCurrentLayout (masses_in patches.old) layout.old }
-    requires valued { IsValued given.problem.now given.level (coarser_masses given) layout.old }
-    requires shared { IsSharedOf given.old given.shared }
+    requires step { MayMakeStep given patches.old }
+    requires layout { ServesLevel (around_of given patches.old) (masses_in patches.old) (coarser_masses given) layout.old }
     requires edges { AreEdgesFor (map box patches.old) (lists_of edges.old) }
     requires crew { MayRun G.admits given.problem.now (length patches.old) workers.old }
     ensures workers { workers.new ≡ workers.old }

@@ -13,9 +13,10 @@ ghost use Rattle.amr_ghost.specs.Plans.{PlansFrames};
 ghost use Rattle.amr_layout.specs.Adds.{HasRegisterCells};
 ghost use Rattle.amr_layout.specs.Arounds.{around_of};
 ghost use Rattle.amr_layout.specs.Surroundings.{edge_count};
+ghost use Rattle.amr_lots.specs.Runs.{lot_count};
 ghost use Rattle.amr_lots.specs.declared.lot.Lot.{Lot as lot};
 ghost use Rattle.amr_advance.specs.Cuts.{AreLayoutsFrom, AreLevelFlows, IsCut, IsSurroundings};
-ghost use Rattle.amr_advance.specs.Lots.{AreLots, AreLotsCurrent, AreLotsValued, IsLotOf, IsWholeLot, is_one, totals_of};
+ghost use Rattle.amr_advance.specs.Lots.{AreLots, AreLotsOf, IsLotOf, IsWholeLot, is_one, totals_of};
 
 use crate::workspaces::{Cut, take_layouts, whole_workspace, workspace_for};
 use amr_board::Shape;
@@ -23,16 +24,13 @@ use amr_box::{Bx, Cell};
 use amr_causes::NoMemory;
 use amr_ghost::{FrameParts, FramePlan, part_frames};
 use amr_layout::{Layout, LevelFlows, PatchLayout, Surroundings, plan, plan_adds_in_threads};
-use amr_lots::Lot;
+use amr_lots::{Lot, lot_count, lot_size};
 use amr_patch::Patch;
 use amr_register::EdgeCell;
 use std::alloc::Global;
 use std::boxed::Box;
 use std::mem::replace;
 use std::thread::Threads;
-
-/// How many patches a level may have that is shared out. More would take more memory than there is, and are refused as that.
-const MOST: usize = 1 << 26;
 
 /// The lots of a level, and what a phase of them needs.
 #[derive(Drop)]
@@ -54,19 +52,6 @@ pub struct Lots {
     pub(crate) lots: Vec<Box<Lot>>,
     /// What flowed to each word of the level in the last step, once one was made by several lots.
     pub(crate) totals: Vec<u64>,
-}
-
-/// How many parts of so many there are in all.
-fn parts_in(all: usize, each: usize) -> usize
-    requires some { 0 < each }
-    ensures enough { all ≤ result * each }
-    ensures few { result ≤ all }
-    ensures tight { result * each < all + each }
-{
-    if all % each == 0 {
-        return all / each;
-    }
-    all / each + 1
 }
 
 /// A box of one cell.
@@ -211,9 +196,8 @@ fn one_lot(
     requires flows { AreLevelFlows (around_of s) flows }
     requires frames { PlansFrames (domain s.problem.now s.level) s.patches.now frames.now }
     ensures lots { IfOk result (AreLots (around_of s.entry)) }
-    ensures one { IfOk result (λ t. t.wanted ≡ 1) }
-    ensures current { IfOk result (λ t. (M : Masses) → AreLotsCurrent M t) }
-    ensures valued { IfOk result (λ t. t.valued ≡ false) }
+    ensures one { IfOk result (λ t. length t.lots.items ≡ 1) }
+    ensures masses { IfOk result (λ t. (p : problem) (l : ℕ) (own old : Masses) → AreLotsOf p l own old t) }
 {
     let each = s.patches.len().max(1);
     let parts = part_frames(alloc, frames, each, 1)?;
@@ -235,7 +219,7 @@ fn one_lot(
     })
 }
 
-/// Several lots: as many as are wanted, or as runs of equal length give. Old lots leave the patches that stand in them.
+/// Several lots: as many as are wanted, or the fewer that hold all patches. Old lots leave the patches that stand in them.
 fn several_lots(
     alloc: Global,
     s: Surroundings<'_>,
@@ -253,12 +237,11 @@ fn several_lots(
     requires flows { AreLevelFlows (around_of s) flows.now }
     requires frames { PlansFrames (domain s.problem.now s.level) s.patches.now frames.now }
     ensures lots { IfOk result (AreLots (around_of s.entry)) }
-    ensures wanted { IfOk result (λ t. t.wanted ≡ wanted) }
-    ensures packed { IfOk result (λ t. t.packed ≡ false) }
-    ensures valued { IfOk result (λ t. t.valued ≡ false) }
+    ensures count { IfOk result (λ t. length t.lots.items ≡ lot_count wanted (length s.entry.patches.now)) }
+    ensures masses { IfOk result (λ t. (p : problem) (l : ℕ) (own old : Masses) → AreLotsOf p l own old t) }
 {
-    let each = parts_in(s.patches.len(), wanted).max(1);
-    let runs = parts_in(s.patches.len(), each);
+    let each = lot_size(s.patches.len(), wanted);
+    let runs = lot_count(s.patches.len(), wanted);
     let parts = part_frames(alloc, frames, each, runs)?;
     let Layout {
         places,
@@ -301,13 +284,10 @@ pub(crate) fn make_lots<R: Threads + Sync>(
     requires cells { HasRegisterCells (around_of s) }
     requires frames { PlansFrames (domain s.problem.now s.level) s.patches.now frames.now }
     ensures lots { IfOk result (AreLots (around_of s.entry)) }
-    ensures current { IfOk result (λ t. (M : Masses) → AreLotsCurrent M t) }
-    ensures valued { IfOk result (λ t. (p : problem) (l : ℕ) (old : Masses) → AreLotsValued p l old t) }
+    ensures count { IfOk result (λ t. 0 < length s.entry.patches.now → length t.lots.items ≡ lot_count wanted (length s.entry.patches.now)) }
+    ensures masses { IfOk result (λ t. (p : problem) (l : ℕ) (own old : Masses) → AreLotsOf p l own old t) }
     ensures few { OnOk result (2 + 2 * length s.entry.cells.now < 2 ^ 32) }
 {
-    if s.patches.len() > MOST {
-        return Err(NoMemory);
-    }
     let flows = plan_adds_in_threads(rt, wanted, alloc, s)?;
     if wanted < 2 {
         return one_lot(alloc, s, frames, flows);

@@ -9,7 +9,7 @@ ghost use Rattle.amr_ghost.specs.Frames.{old_masses};
 ghost use Rattle.amr_ghost.specs.Outer.{HasOuterPlaces, IsOuterSpan};
 ghost use Rattle.amr_advance.specs.Outer.{HasFound, IsLent, IsReadied, IsSharedOf, KeepsAllButLent};
 
-use crate::level::Given;
+use crate::level::StepInput;
 use amr_def::Problem;
 use amr_lots::Lot;
 use amr_patch::Level;
@@ -63,7 +63,7 @@ fn find_lot_values(p: &Problem, l: u32, old: Option<&Level>, lot: &mut Box<Lot>)
 }
 
 /// The same of all lots.
-fn find_values(given: Given<'_>, lots: &mut [Box<Lot>])
+fn find_values(given: StepInput<'_>, lots: &mut [Box<Lot>])
     requires level { given.level ≤ 4 }
     requires spans { All (λ x. All (IsOuterSpan (domain given.problem.now given.level)) x.value.workspace.outer.spans.items) lots.old }
     requires places { All (λ x. HasOuterPlaces x.value.workspace.outer) lots.old }
@@ -76,7 +76,7 @@ fn find_values(given: Given<'_>, lots: &mut [Box<Lot>])
 
 /// Lends lots the next coarser level, where it can be shared and there are several of them: each then finds the values as part of its task.
 /// It answers whether it did: there may be no memory for the shares of all.
-fn lend_coarser(given: Given<'_>, lots: &mut [Box<Lot>]) -> bool
+fn lend_coarser(given: StepInput<'_>, lots: &mut [Box<Lot>]) -> bool
     requires { IsSharedOf given.old given.shared }
     ensures readied { result ≡ true
         → AllZip (IsReadied given.entry.problem.now given.entry.level (old_masses (option_copied given.entry.old))) lots.old lots.new }
@@ -93,7 +93,7 @@ fn lend_coarser(given: Given<'_>, lots: &mut [Box<Lot>]) -> bool
 
 /// Readies lots whose ghost cells' values are to be worked out anew: by the next coarser level, which is lent to them, in their tasks, or else
 /// here.
-pub(crate) fn ready_outer(given: Given<'_>, lots: &mut [Box<Lot>])
+pub(crate) fn ready_outer(given: StepInput<'_>, lots: &mut [Box<Lot>])
     requires level { given.level ≤ 4 }
     requires spans { All (λ x. All (IsOuterSpan (domain given.problem.now given.level)) x.value.workspace.outer.spans.items) lots.old }
     requires places { All (λ x. HasOuterPlaces x.value.workspace.outer) lots.old }

@@ -31,7 +31,7 @@ use std::thread::Threads;
 
 /// A phase of a level's lots: of which problem and level, what is done with them, and, for contracts alone, what that is worked out from.
 #[derive(Clone, Copy)]
-pub(crate) struct Phase<'a> {
+pub(crate) struct PhaseInput<'a> {
     pub(crate) alloc: Global,
     pub(crate) problem: &'a Problem,
     pub(crate) level: u32,
@@ -61,7 +61,7 @@ const NO_POSTS: Shape = Shape {
 };
 
 /// Makes pieces of lots, in a list that has room for them. Piece `i` is that of task `i`.
-fn to_pieces(phase: Phase<'_>, lots: Vec<Box<Lot>>, mut pieces: Vec<Work>) -> Vec<Work>
+fn to_pieces(phase: PhaseInput<'_>, lots: Vec<Box<Lot>>, mut pieces: Vec<Work>) -> Vec<Work>
     requires few { length lots.items < 2 ^ 32 }
     requires empty { pieces.items ≡ [] }
     requires room { length lots.items ≤ vec_capacity pieces }
@@ -118,13 +118,14 @@ fn pieces_of(fault: MakeFault<Work>) -> Vec<Work>
 /// Puts lots on a board, as the pieces of a phase's tasks. It gives the board and its only seat. All memory of the phase is taken here: if
 /// allocation fails the lots are as before. Else the list that had them is empty, with room for them.
 pub(crate) fn open_lots(
-    phase: Phase<'_>,
+    phase: PhaseInput<'_>,
     shape: Shape,
     lots: &mut Vec<Box<Lot>>,
 ) -> Result<(Board<Work>, Seat<Work>), NoMemory>
     requires few { length lots.old.items < 2 ^ 32 }
     requires pieces { (ws : List piece) → ArePieces phase.basis.now phase.level phase.duty lots.old.items ws → MayBeRun phase.problem.now shape ws }
-    ensures opened { IfOk result (λ r. IsOpened phase.entry.basis.now phase.entry.level phase.entry.duty phase.entry.problem.now shape lots.old.items r.0 r.1) }
+    ensures opened { IfOk result (λ r. IsOpened phase.entry.basis.now phase.entry.level phase.entry.duty phase.entry.problem.now shape
+        lots.old.items r.0 r.1) }
     ensures empty { OnOk result (lots.new.items ≡ []) }
     ensures room { OnOk result (length lots.old.items ≤ vec_capacity lots.new) }
     ensures back { OnErr result (lots.new.items ≡ lots.old.items) }
@@ -174,7 +175,7 @@ fn take_totals(ended: &Ended<Work>, totals: &mut [u64])
 /// for them. The board's words are left.
 fn run_lots<R: Threads + Wait + Sync, G: Gate + Sync>(
     workers: &mut Workers<'_, R, G>,
-    phase: Phase<'_>,
+    phase: PhaseInput<'_>,
     board: Board<Work>,
     seat: Seat<Work>,
     lots: &mut Vec<Box<Lot>>,
@@ -200,7 +201,7 @@ fn run_lots<R: Threads + Wait + Sync, G: Gate + Sync>(
 /// those of the words.
 pub(crate) fn run_step<R: Threads + Wait + Sync, G: Gate + Sync>(
     workers: &mut Workers<'_, R, G>,
-    phase: Phase<'_>,
+    phase: PhaseInput<'_>,
     board: Board<Work>,
     seat: Seat<Work>,
     lots: &mut Lots,
@@ -234,7 +235,7 @@ fn serve_alone(duty: Duty, lots: &mut [Box<Lot>])
 /// Has workers do something with lots that posts nothing: where there is no memory for a board, this thread alone.
 pub(crate) fn serve_lots<R: Threads + Wait + Sync, G: Gate + Sync>(
     workers: &mut Workers<'_, R, G>,
-    phase: Phase<'_>,
+    phase: PhaseInput<'_>,
     lots: &mut Vec<Box<Lot>>,
 )
     requires few { length lots.old.items < 2 ^ 32 }

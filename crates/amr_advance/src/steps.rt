@@ -1,28 +1,19 @@
 //! A step of a level.
 
-ghost use Rattle.std.specs.Prelude.{◌≡◌, ◌+◌, ◌*◌, ◌<◌, ◌≤◌, ◌^◌, ℕ, pos, List, max, min, IfSome, OnOk, OnErr, length, map, slice_index};
+ghost use Rattle.std.specs.Prelude.{◌≡◌, pos, max, min, IfSome, OnOk, OnErr, length, map};
 ghost use Rattle.std.specs.Option.{option_copied};
-ghost use Rattle.amr_def.specs.Facts.{IsLevel};
-ghost use Rattle.amr_def.specs.Flux.{flux_at, updated};
-ghost use Rattle.amr_laws.specs.Sides.{inflow_beside, is_uncovered, outflow_beside};
 ghost use Rattle.amr_patch.specs.Levels.{level_of, patches_of};
-ghost use Rattle.amr_patch.specs.Orders.{IsOrderOf};
 ghost use Rattle.amr_patch.specs.Patches.{ArePatchesApart, box, masses_in};
 ghost use Rattle.amr_ghost.specs.Frames.{old_masses};
-ghost use Rattle.amr_layout.specs.Adds.{HasRegisterCells};
-ghost use Rattle.amr_layout.specs.Surroundings.{finer_masses};
-ghost use Rattle.amr_lots.specs.Lots.{LevelStepFits};
-ghost use Rattle.amr_register.specs.Registers.{HasEdgesOf};
-ghost use Rattle.amr_advance.specs.Crews.{MayRun};
-ghost use Rattle.amr_advance.specs.Kept.{IsCurrentLayout, IsKeptLayout, IsValued};
+ghost use Rattle.amr_advance.specs.Crews.{MayRun, MayWork};
+ghost use Rattle.amr_advance.specs.Kept.{IsKeptOf};
 ghost use Rattle.amr_advance.specs.Outer.{IsSharedOf};
-ghost use Rattle.amr_advance.specs.Phases.{IsBasisOf};
-ghost use Rattle.amr_advance.specs.Registers.{BothChange, HasCoarser, HasEdges, HasFiner, cells_of, gained, taken};
-ghost use Rattle.amr_advance.specs.Steps.{LeavesStep, MayStepLevel, around_of, coarser_masses};
+ghost use Rattle.amr_advance.specs.Registers.{BothChange, cells_of};
+ghost use Rattle.amr_advance.specs.Steps.{HasAdvanced, HasNotAdvanced, LeavesStep, MayAdvance, MayStepPatches, around_of, coarser_masses, step_of};
 
 use crate::crew::Workers;
 use crate::kept::{KeptLayout, layout_for};
-use crate::level::{Given, run_level};
+use crate::level::{StepInput, run_level};
 use crate::phases::basis_of;
 use crate::registers::{put_edges, take_edges, take_nets};
 use crate::regs::{Crew, Regs};
@@ -59,22 +50,14 @@ fn cells_of(register: &Option<Register>) -> &[Cell]
 /// register has the entries of before.
 fn step_patches<R: Threads + Wait + Sync, G: Gate + Sync>(
     workers: &mut Workers<'_, R, G>,
-    given: Given<'_>,
+    given: StepInput<'_>,
     order: Order,
     patches: &mut [Patch],
     register: &mut Option<Register>,
     kept: &mut Option<KeptLayout>,
 ) -> Result<(), NoMemory>
-    requires level { MayStepLevel (around_of given patches.old) (coarser_masses given) }
-    requires basis { IsBasisOf given.problem.now patches.old (option_copied given.old) given.basis.now }
-    requires order { IsOrderOf order patches.old }
-    requires cells { HasRegisterCells (around_of given patches.old) }
-    requires register { HasEdges given.problem.now given.level (masses_in patches.old) (option_copied given.finer) register.old }
-    requires edges { IfSome register.old (HasEdgesOf (map box patches.old)) }
-    requires kept { IfSome kept.old (IsKeptLayout given.problem.now) }
-    requires current { IfSome kept.old (IsCurrentLayout (masses_in patches.old)) }
-    requires valued { IfSome kept.old (IsValued given.problem.now given.level (coarser_masses given)) }
-    requires shared { IsSharedOf given.old given.shared }
+    requires may { MayStepPatches given order patches.old register.old }
+    requires kept { IfSome kept.old (IsKeptOf given.problem.now given.level (masses_in patches.old) (coarser_masses given)) }
     requires crew { MayRun G.admits given.problem.now (length patches.old) workers.old }
     ensures workers { workers.new ≡ workers.old }
     ensures stepped { OnOk result (LeavesStep (around_of given.entry patches.old)
@@ -83,9 +66,7 @@ fn step_patches<R: Threads + Wait + Sync, G: Gate + Sync>(
     ensures apart { ArePatchesApart patches.new }
     ensures same_masses { OnErr result (masses_in patches.new ≡ masses_in patches.old) }
     ensures same_register { OnErr result (BothChange (λ c. pos 0) register.old register.new) }
-    ensures kept { IfSome kept.new (IsKeptLayout given.entry.problem.now) }
-    ensures current { IfSome kept.new (IsCurrentLayout (masses_in patches.new)) }
-    ensures valued { IfSome kept.new (IsValued given.entry.problem.now given.entry.level (coarser_masses given.entry)) }
+    ensures kept { IfSome kept.new (IsKeptOf given.entry.problem.now given.entry.level (masses_in patches.new) (coarser_masses given.entry)) }
 {
     let wanted = lots_wanted(workers, patches);
     let mut layout = layout_for(workers.runtime, given, order, patches, wanted, kept)?;
@@ -102,10 +83,9 @@ fn step_patches<R: Threads + Wait + Sync, G: Gate + Sync>(
 /// the workspaces of its tasks, is taken from `kept` where it was made for the same boxes. Else it is made anew. It is
 /// kept afterwards, but not after `NoMemory`.
 ///
-/// There are from 1 to 64 workers. `kept` and the team, where there is one, are of the same problem. What is kept of the level's masses is
-/// of those that it has: who changes them between two steps says so by [`KeptLayout::masses_changed`]. What is kept of the next coarser
-/// level's masses is of those in `old`: who changes these says so by [`KeptLayout::coarser_changed`]. `shared` is a share of `old` where there is
-/// one: then workers can find values in it, too. The register over the next finer level
+/// There are from 1 to 64 workers. `kept` and the team, where there is one, are of the same problem. What is kept of masses, where it keeps any,
+/// is of those of the level and of `old`: who changes masses between two steps has what is stale forgotten ([`forget`](crate::forget)).
+/// `shared` is a share of `old` where there is one: then workers can find values in it, too. The register over the next finer level
 /// has a list of register cells for each patch, as [`Register::make`] gives it. It serves each step until boxes change.
 pub fn advance_kept<R: Threads + Wait + Sync, G: Gate + Sync>(
     workers: &mut Workers<'_, R, G>,
@@ -118,52 +98,20 @@ pub fn advance_kept<R: Threads + Wait + Sync, G: Gate + Sync>(
     regs: &mut Regs,
     kept: &mut Option<KeptLayout>,
 ) -> Result<(), NoMemory>
-    requires number { l ≤ 4 }
-    requires of_domain { IsLevel p.now l (level_of level.old) }
-    requires fits { LevelStepFits p.now l (level_of level.old).masses (old_masses (option_copied old)) }
-    requires coarser { HasCoarser p.now l (level_of level.old) (option_copied old) regs.old.coarser }
-    requires finer { HasFiner p.now l (level_of level.old) (option_copied finer) regs.old.finer }
-    requires edges { IfSome regs.old.finer (HasEdgesOf (map box (patches_of level.old))) }
+    requires may { MayAdvance (step_of p.now l level.old (option_copied old) (option_copied finer)) regs.old }
     requires shared { IsSharedOf old shared }
     requires crew { MayRun G.admits p.now (length (patches_of level.old)) workers.old }
-    requires inflow { regs.old.inflow
-        + inflow_beside p.now l (is_uncovered (level_of level.old).masses (finer_masses (option_copied finer)))
-        (flux_at p.now l (level_of level.old).masses (old_masses (option_copied old))) < 2 ^ 63 }
-    requires outflow { regs.old.outflow
-        + outflow_beside p.now l (is_uncovered (level_of level.old).masses (finer_masses (option_copied finer)))
-        (flux_at p.now l (level_of level.old).masses (old_masses (option_copied old))) < 2 ^ 63 }
-    requires kept { IfSome kept.old (IsKeptLayout p.now) }
-    requires current { IfSome kept.old (IsCurrentLayout (level_of level.old).masses) }
-    requires valued { IfSome kept.old (IsValued p.now l (old_masses (option_copied old))) }
+    requires kept { IfSome kept.old (IsKeptOf p.now l (level_of level.old).masses (old_masses (option_copied old))) }
     ensures workers { workers.new ≡ workers.old }
-    ensures masses { OnOk result ((level_of level.new).masses
-        ≡ updated (level_of level.old).masses (flux_at p.now l (level_of level.old).masses (old_masses (option_copied old.entry)))) }
-    ensures boxes { (level_of level.new).boxes ≡ (level_of level.old).boxes }
-    ensures patches { map box (patches_of level.new) ≡ map box (patches_of level.old) }
-    ensures coarser { OnOk result (BothChange
-        (gained p.now l (level_of level.old).masses
-        (flux_at p.now l (level_of level.old).masses (old_masses (option_copied old.entry)))) regs.old.coarser regs.new.coarser) }
-    ensures finer { OnOk result (BothChange
-        (taken p.now l (level_of level.old).masses (old_masses (option_copied old.entry))
-        (finer_masses (option_copied finer.entry))) regs.old.finer regs.new.finer) }
-    ensures inflow { OnOk result (regs.new.inflow
-        ≡ regs.old.inflow + inflow_beside p.now l (is_uncovered (level_of level.old).masses (finer_masses (option_copied finer.entry)))
-        (flux_at p.now l (level_of level.old).masses (old_masses (option_copied old.entry)))) }
-    ensures outflow { OnOk result (regs.new.outflow
-        ≡ regs.old.outflow + outflow_beside p.now l (is_uncovered (level_of level.old).masses (finer_masses (option_copied finer.entry)))
-        (flux_at p.now l (level_of level.old).masses (old_masses (option_copied old.entry)))) }
-    ensures same_masses { OnErr result ((level_of level.new).masses ≡ (level_of level.old).masses) }
-    ensures same_coarser { OnErr result (regs.new.coarser ≡ regs.old.coarser) }
-    ensures same_finer { OnErr result (BothChange (λ c. pos 0) regs.old.finer regs.new.finer) }
-    ensures same_sums { OnErr result ((regs.new.inflow ≡ regs.old.inflow) × (regs.new.outflow ≡ regs.old.outflow)) }
-    ensures kept { IfSome kept.new (IsKeptLayout p.now) }
-    ensures current { IfSome kept.new (IsCurrentLayout (level_of level.new).masses) }
-    ensures valued { IfSome kept.new (IsValued p.now l (old_masses (option_copied old.entry))) }
+    ensures made { OnOk result (HasAdvanced (step_of p.now l level.old (option_copied old.entry) (option_copied finer.entry)) regs.old level.new regs.new) }
+    ensures not_made { OnErr result (HasNotAdvanced (step_of p.now l level.old (option_copied old.entry) (option_copied finer.entry)) regs.old
+        level.new regs.new) }
+    ensures kept { IfSome kept.new (IsKeptOf p.now l (level_of level.new).masses (old_masses (option_copied old.entry))) }
 {
     let order = level.order();
     let mut patches = level.take_patches();
     let basis = basis_of(p, &patches, old);
-    let given = Given {
+    let given = StepInput {
         alloc: *patches.allocator(),
         problem: p,
         level: l,
@@ -204,42 +152,11 @@ pub fn advance<R: Threads + Wait + Sync, G: Gate + Sync>(
     crew: Crew,
     gate: &G,
 ) -> Result<(), NoMemory>
-    requires number { l ≤ 4 }
-    requires of_domain { IsLevel p.now l (level_of level.old) }
-    requires fits { LevelStepFits p.now l (level_of level.old).masses (old_masses (option_copied old)) }
-    requires coarser { HasCoarser p.now l (level_of level.old) (option_copied old) regs.old.coarser }
-    requires finer { HasFiner p.now l (level_of level.old) (option_copied finer) regs.old.finer }
-    requires edges { IfSome regs.old.finer (HasEdgesOf (map box (patches_of level.old))) }
-    requires one_rank { crew.ranks ≡ 1 }
-    requires some_workers { 1 ≤ crew.workers }
-    requires few_workers { crew.workers ≤ 64 }
-    requires gate { (worker task : ℕ) → worker < crew.workers → task < length (patches_of level.old) → G.admits gate.now worker task }
-    requires inflow { regs.old.inflow
-        + inflow_beside p.now l (is_uncovered (level_of level.old).masses (finer_masses (option_copied finer)))
-        (flux_at p.now l (level_of level.old).masses (old_masses (option_copied old))) < 2 ^ 63 }
-    requires outflow { regs.old.outflow
-        + outflow_beside p.now l (is_uncovered (level_of level.old).masses (finer_masses (option_copied finer)))
-        (flux_at p.now l (level_of level.old).masses (old_masses (option_copied old))) < 2 ^ 63 }
-    ensures masses { OnOk result ((level_of level.new).masses
-        ≡ updated (level_of level.old).masses (flux_at p.now l (level_of level.old).masses (old_masses (option_copied old.entry)))) }
-    ensures boxes { (level_of level.new).boxes ≡ (level_of level.old).boxes }
-    ensures patches { map box (patches_of level.new) ≡ map box (patches_of level.old) }
-    ensures coarser { OnOk result (BothChange
-        (gained p.now l (level_of level.old).masses
-        (flux_at p.now l (level_of level.old).masses (old_masses (option_copied old.entry)))) regs.old.coarser regs.new.coarser) }
-    ensures finer { OnOk result (BothChange
-        (taken p.now l (level_of level.old).masses (old_masses (option_copied old.entry))
-        (finer_masses (option_copied finer.entry))) regs.old.finer regs.new.finer) }
-    ensures inflow { OnOk result (regs.new.inflow
-        ≡ regs.old.inflow + inflow_beside p.now l (is_uncovered (level_of level.old).masses (finer_masses (option_copied finer.entry)))
-        (flux_at p.now l (level_of level.old).masses (old_masses (option_copied old.entry)))) }
-    ensures outflow { OnOk result (regs.new.outflow
-        ≡ regs.old.outflow + outflow_beside p.now l (is_uncovered (level_of level.old).masses (finer_masses (option_copied finer.entry)))
-        (flux_at p.now l (level_of level.old).masses (old_masses (option_copied old.entry)))) }
-    ensures same_masses { OnErr result ((level_of level.new).masses ≡ (level_of level.old).masses) }
-    ensures same_coarser { OnErr result (regs.new.coarser ≡ regs.old.coarser) }
-    ensures same_finer { OnErr result (BothChange (λ c. pos 0) regs.old.finer regs.new.finer) }
-    ensures same_sums { OnErr result ((regs.new.inflow ≡ regs.old.inflow) × (regs.new.outflow ≡ regs.old.outflow)) }
+    requires may { MayAdvance (step_of p.now l level.old (option_copied old) (option_copied finer)) regs.old }
+    requires crew { MayWork G.admits gate.now (length (patches_of level.old)) crew }
+    ensures made { OnOk result (HasAdvanced (step_of p.now l level.old (option_copied old.entry) (option_copied finer.entry)) regs.old level.new regs.new) }
+    ensures not_made { OnErr result (HasNotAdvanced (step_of p.now l level.old (option_copied old.entry) (option_copied finer.entry)) regs.old
+        level.new regs.new) }
 {
     let mut workers = Workers {
         runtime: rt,

@@ -2,5 +2,3 @@ mod Owners
 mod Loads
 mod Balance
 mod SoFar
-mod LargestFirst
-pub mod TurnLaws

@@ -1,5 +1,4 @@
-//! Tasks shared out among workers in advance (list scheduling; Graham 1966). And the order in which workers draw what has an
-//! area: the larger first.
+//! Tasks shared out among workers in advance (list scheduling; Graham 1966).
 #![tactic(auto)]
 
 ghost use Rattle.std.specs.Prelude.{◌≡◌, ℕ, ◌^◌, ◌<◌, ◌≤◌, length, slice_index, slice_index_or, [], sum, IfOk};
@@ -7,10 +6,6 @@ ghost use Rattle.amr_balance.specs.Shares.{IsBalanced, IsLeast, IsShare, lists_i
 
 use amr_causes::NoMemory;
 use std::alloc::Global;
-
-mod order;
-
-pub use order::largest_first;
 
 /// The worker with the least to do, the lowest number on a tie.
 fn least_loaded(loads: &[u64]) -> usize

@@ -3,7 +3,7 @@ use Rattle.std.proofs.Common.{◌≡◌, ◌∙◌, ℕ, ◌+◌, ◌-◌, ◌<�
 use Rattle.std.proofs.lemmas.Grind.{flat_map-append}
 use Rattle.std.proofs.lemmas.List.{drop-drop, length-map, length-take-le, map-append, take-append-drop, take_all}
 use Rattle.std.proofs.lemmas.List.Elements.{All-append, All-cons, All-nil}
-use Rattle.amr_batch.specs.declared.reading.Span.{Span}
+use Rattle.amr_batch.specs.declared.spans.Span.{Span}
 use Rattle.amr_batch.specs.Batch.{BeginsWith, HasNoJob, IsBatch, IsJob, IsMalformedAt, IsSpanOf, bytes_in, job_text}
 
 -- what is left of a slice from a place on

@@ -4,7 +4,7 @@ use Rattle.std.specs.Global.{Vec}
 use Rattle.std.proofs.lemmas.List.{get_or_append_left, get_or-append-add, get_or_default, map-append}
 use Rattle.std.proofs.lemmas.List.Elements.{All-append, All-cons, All-nil}
 use Rattle.amr_balance.specs.Shares.{IsShare, Owner, lists_in, tasks_of}
-use Rattle.amr_batch.specs.declared.solving.Lot.{Lot}
+use Rattle.amr_batch.specs.declared.replies.Lot.{Lot}
 use Rattle.amr_batch.specs.Replies.{AreTasks, HasTasks}
 
 front_all : {A : Type 0} (P : A → Type 0) (xs : List A) (x : A) → All P (xs ++ x ∷ []) → All P xs

@@ -4,7 +4,7 @@ use Rattle.std.specs.Prelude.{IfSome}
 use Rattle.std.specs.declared.option.Option.{Option}
 use Rattle.std.proofs.lemmas.Bool.Decides.{eqb_tells}
 use Rattle.std.proofs.lemmas.List.{get_or_append_left, get_or-append-add, get_or-set_other, get_or-set_same, length-set}
-use Rattle.amr_batch.specs.declared.reading.Span.{Span}
+use Rattle.amr_batch.specs.declared.spans.Span.{Span}
 use Rattle.amr_batch.specs.Replies.{AreRepliesTo, HasReplies, job_at}
 
 -- the first of these numbers have their replies

@@ -1,7 +1,7 @@
 -- Batches: jobs one after another, each a line with its length and then so many bytes. (profile)
 use Rattle.std.specs.Prelude.{◌≡◌, ◌⊎◌, ℕ, ◌+◌, ◌<◌, ◌≤◌, List, ◌∷◌, ◌++◌, length, take, drop, codes, decimal}
 use Rattle.std.specs.List.{All, flat_map}
-use Rattle.amr_batch.specs.declared.reading.Span.{Span}
+use Rattle.amr_batch.specs.declared.spans.Span.{Span}
 
 -- a job in a batch: its length in decimal digits, without leading zeros, and its bytes
 abbrev pub job_text : List ℕ → List ℕ

@@ -1,6 +1,6 @@
 -- Laws of batches, each of which a call of the crate ensures.
 use Rattle.std.specs.Prelude.{◌≡◌, ℕ, ◌<◌, List, length, slice_index_or}
-use Rattle.amr_batch.specs.declared.reading.Span.{Span}
+use Rattle.amr_batch.specs.declared.spans.Span.{Span}
 use Rattle.amr_batch.specs.Batch.{IsBatch, IsMalformedAt}
 use Rattle.amr_batch.specs.Replies.{AreReplies, job_at}
 

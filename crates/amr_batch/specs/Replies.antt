@@ -2,8 +2,8 @@
 use Rattle.std.specs.Prelude.{◌≡◌, ℕ, ◌<◌, List, length, slice_index, slice_index_or, IfOk, IfSome}
 use Rattle.std.specs.List.{All}
 use Rattle.std.specs.declared.option.Option.{Option}
-use Rattle.amr_batch.specs.declared.reading.Span.{Span}
-use Rattle.amr_batch.specs.declared.solving.Lot.{Lot}
+use Rattle.amr_batch.specs.declared.spans.Span.{Span}
+use Rattle.amr_batch.specs.declared.replies.Lot.{Lot}
 use Rattle.amr_batch.specs.Batch.{bytes_in}
 
 abbrev pub no_span : Span

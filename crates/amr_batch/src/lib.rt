@@ -11,12 +11,12 @@ ghost use Rattle.amr_batch.specs.Laws.{HasOnePlace, HasOneReading, IsOneOrTheOth
 
 mod answer;
 mod numeral;
-mod reading;
-mod solving;
+mod replies;
+mod spans;
 
 pub use answer::{Reply, put_answer};
-pub use reading::{JobsFault, Span, jobs};
-pub use solving::{Solve, run_all};
+pub use replies::{Solve, run_all};
+pub use spans::{JobsFault, Span, jobs};
 
 /// Bytes are a batch of one list of jobs; or they are malformed, at one place; and not both.
 pub fn batches_are_read_in_one_way()

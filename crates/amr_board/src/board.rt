@@ -12,7 +12,7 @@ ghost use lib.ListN.{get_elem?};
 
 use crate::ended::Ended;
 use crate::piece::Piece;
-use crate::rule::{About, Adding, Drawing, Giving, Halves, Kept, Looking, Putting, Taking};
+use crate::rule::{About, Adding, BoardRule, Drawing, Giving, Halves, Looking, Putting, Taking};
 use crate::slots::{from_slots, to_slots};
 use crate::view::View;
 use atomic_table::{Refused, Table};
@@ -41,7 +41,7 @@ pub type Seat<P> = atomic_table::Seat<Option<P>, View<P>>;
 /// no memory.
 #[derive(Drop)]
 pub struct Board<P: Piece> {
-    table: Table<Option<P>, View<P>, About<P>, Kept<P>, Global>,
+    table: Table<Option<P>, View<P>, About<P>, BoardRule<P>, Global>,
     shape: Shape,
     tasks: u32,
 }

@@ -61,15 +61,6 @@ impl<P> Ended<P> {
         self.closed.word(at) - 1
     }
 
-    /// What stands at a place: 0 where nothing was put, else what was put plus 1.
-    pub fn face_word(&self, place: u32) -> u64
-        requires place { place < self.now.places }
-        ensures { result ≡ face_of self.now place }
-    {
-        let at = 1 + place as usize;
-        self.closed.word(at)
-    }
-
     /// Hands out the piece that was given back for a task. It can be handed out once.
     pub fn hand(&mut self, task: u32) -> P
         requires { (p : P) × (get_elem? self.old.pieces task ≡ some (Some p)) }

@@ -19,11 +19,11 @@ pub struct About<P> {
 }
 
 /// The board's invariant.
-pub struct Kept<P> {
+pub struct BoardRule<P> {
     piece: PhantomData<P>,
 }
 
-impl<P: Piece> TableRule<Option<P>, View<P>, About<P>> for Kept<P> {
+impl<P: Piece> TableRule<Option<P>, View<P>, About<P>> for BoardRule<P> {
     ghost holds = { λ about s. Rule
         (plan_of P.puts P.adds about.shape.places about.shape.words about.pieces.value.items) about.pieces.value.items P.becomes s };
 

@@ -9,13 +9,13 @@ ghost use Rattle.amr_boxlist.specs.Lists.{AreApart};
 ghost use Rattle.amr_boxlist.specs.Chopped.{chopped};
 ghost use Rattle.amr_boxlist.specs.Remnants.{remnants};
 
-mod chopping;
 mod outside;
-mod sharing;
+mod overlap;
+mod patch_boxes;
 
 use amr_box::Bx;
 use amr_causes::NoMemory;
-pub use sharing::covers;
+pub use overlap::covers;
 use std::alloc::Global;
 use std::marker::Model;
 
@@ -86,7 +86,7 @@ impl BoxList {
         requires { IsNear b.now }
         ensures { IsTrue result ↔ ((c : Cell) → IsTrue (holds b.now c) → IsTrue (in_boxes self.now c)) }
     {
-        sharing::covers(self.boxes.as_slice(), b)
+        overlap::covers(self.boxes.as_slice(), b)
     }
 
     /// Chops each box, from its low corner, into patch boxes of `max` by `max` cells, the last ones shorter (BoxLib's
@@ -100,7 +100,7 @@ impl BoxList {
         ensures err { OnErr result (self.new ≡ self.old) }
     {
         let alloc = *self.boxes.allocator();
-        let patch_boxes = chopping::chop_all(alloc, self.boxes.as_slice(), max)?;
+        let patch_boxes = patch_boxes::chop_all(alloc, self.boxes.as_slice(), max)?;
         self.boxes = patch_boxes;
         Ok(())
     }

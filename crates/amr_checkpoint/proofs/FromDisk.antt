@@ -1,8 +1,7 @@
 -- What was read is what the image holds.
-use Rattle.std.proofs.Common.{◌≡◌, ◌≢◌, inr, ℕ, Bool, List, Option, Some, None, refl, sym, ◌∙◌, ap, subst, eq-eqb, IfOk}
+use Rattle.std.proofs.Common.{◌≡◌, ◌≢◌, inr, ℕ, Bool, List, refl, sym, ◌∙◌, ap, subst, eq-eqb, IfOk}
 use Rattle.std.proofs.lemmas.Bool.{ne_eqb}
-use Rattle.std.proofs.lemmas.Option.{same_Some}
-use Rattle.std.specs.Prelude.{if◌then◌else◌, option_map}
+use Rattle.std.specs.Prelude.{if◌then◌else◌}
 use Rattle.std.specs.Int.{Width, w32, w64}
 use Rattle.std.specs.declared.result.Result.{Result}
 use Rattle.std.specs.declared.result.Result.TheVariants.{Ok, Err}
@@ -10,7 +9,7 @@ use Rattle.amr_def.specs.declared.problem.Problem.{Problem}
 use Rattle.amr_def.specs.Facts.{IsSound}
 use Rattle.amr_patch.specs.declared.meshes.Mesh.{Mesh}
 use Rattle.amr_patch.specs.Meshes.{state_of}
-use Rattle.amr_payload.specs.Payload.{IsMassWidth, payload, slot_size}
+use Rattle.amr_payload.specs.Payload.{IsMassWidth, payload}
 use Rattle.amr_payload.specs.Tests.{decoded}
 use Rattle.amr_payload.proofs.WriteStates.{read_back}
 use Rattle.amr_problem.specs.Judgement.{IsProblemOf}
@@ -21,13 +20,13 @@ use Rattle.amr_store.specs.declared.part.Part.{Part}
 use Rattle.amr_store.specs.declared.part.Part.TheVariants as part
 use Rattle.amr_store.specs.declared.store.Store.{Store}
 use Rattle.amr_store.specs.Opened.{Finds}
-use Rattle.amr_store.specs.Shown.{Shows, ShowsState, payload_of}
-use Rattle.amr_store.specs.Stands.{last_in, problem_in, slot_size_in, version_in}
+use Rattle.amr_store.specs.Shown.{Shows, ShowsState}
+use Rattle.amr_store.specs.Stands.{problem_in, slot_size_in, version_in}
 use Rattle.amr_store.specs.Stored as store
-use Rattle.amr_checkpoint.specs.declared.reading.Checkpoint.{Checkpoint}
-use Rattle.amr_checkpoint.specs.declared.reading.Checkpoint.TheVariants as read
+use Rattle.amr_checkpoint.specs.declared.contents.Checkpoint.{Checkpoint}
+use Rattle.amr_checkpoint.specs.declared.contents.Checkpoint.TheVariants as read
 use Rattle.amr_checkpoint.specs.Checkpoints.{IsFreshStore, IsMeshFor, IsStoreAt, IsStoreFor, IsUsable, content_at_mesh, content_of}
-use Rattle.amr_checkpoint.specs.Contents.{Content, Empty, Damaged, Fresh, StoreHolds, latest_read, mass_width, payload_read, store_read}
+use Rattle.amr_checkpoint.specs.Contents.{Content, Empty, Damaged, Fresh, StoreHolds, latest_read, mass_width, room_for, store_read}
 use Rattle.amr_checkpoint.proofs.Making.{store_reads}
 
 -- ---- versions
@@ -44,45 +43,26 @@ decoded_by (Ok m) version w p bytes width is_width bytes_are sound =
     ap (λ (v : Width). decoded v p bytes) width ∙ ap (λ (b : List ℕ). decoded w p b) bytes_are ∙ read_back w p (state_of m) is_width sound
 decoded_by (Err e) version w p bytes width is_width bytes_are sound = tt
 
--- ---- the latest state
-
-latest_by : (held : store.State) (p : Problem) (latest : Option store.Entry) (content : Content) (problem bytes : List ℕ) (version : ℕ) (last : Option ℕ) → Some bytes ≡ payload_of latest → last ≡ option_map (λ (e : store.Entry). e.sequence) latest
-    → problem ≡ held.problem → version ≡ held.version
-    → ((sequence : ℕ) → last ≡ Some sequence → content ≡ payload_read problem p sequence (decoded (mass_width version) p bytes)) → content ≡ latest_read held p latest
-latest_by held p None content problem bytes version last payload sequence problem_is version_is by = absurd (cc)
-latest_by held p (Some entry) content problem bytes version last payload sequence problem_is version_is by =
-    by entry.sequence sequence
-    ∙ ap (λ (b : List ℕ). payload_read b p entry.sequence (decoded (mass_width version) p bytes)) problem_is
-    ∙ ap (λ (v : ℕ). payload_read held.problem p entry.sequence (decoded (mass_width v) p bytes)) version_is
-    ∙ ap (λ (b : List ℕ). payload_read held.problem p entry.sequence (decoded (mass_width held.version) p b)) (same_Some bytes entry.payload payload)
-
--- a store in memory before its latest state is read, and after
-pub latest_is : (before after : Store) (held : store.State) (p : Problem) (content : Content) (bytes : List ℕ) → ShowsState before held → version_in after ≡ version_in before → problem_in after ≡ problem_in before → last_in after ≡ last_in before
-    → Some bytes ≡ payload_of held.latest
-    → ((sequence : ℕ) → last_in after ≡ Some sequence → content ≡ payload_read (problem_in after) p sequence (decoded (mass_width (version_in after)) p bytes)) → content ≡ latest_read held p held.latest
-latest_is before after held p content bytes shows version problem last payload by =
-    latest_by held p held.latest content (problem_in after) bytes (version_in after) (last_in after) payload (last ∙ shows.last) (problem ∙ shows.problem) (version ∙ shows.version) by
-
 -- ---- the store
 
-pub room_of : (s : Store) (held : store.State) (p : Problem) → ShowsState s held → slot_size_in s ≡ slot_size (mass_width (version_in s)) p → held.slot_size ≡ slot_size (mass_width held.version) p
-room_of s held p shows room = sym shows.slot_size ∙ room ∙ ap (λ (v : ℕ). slot_size (mass_width v) p) shows.version
+pub room_of : (s : Store) (held : store.State) (p : Problem) → ShowsState s held → slot_size_in s ≡ room_for (version_in s) p → held.slot_size ≡ room_for held.version p
+room_of s held p shows room = sym shows.slot_size ∙ room ∙ ap (λ (v : ℕ). room_for v p) shows.version
 
 accepted_of : (s : Store) (held : store.State) (p : Problem) (bytes : List ℕ) → ShowsState s held → bytes ≡ problem_in s → IsProblemOf bytes p → IsProblemOf held.problem p
 accepted_of s held p bytes shows bytes_are accepted = subst (λ (b : List ℕ). IsProblemOf b p) (bytes_are ∙ shows.problem) accepted
 
-pub store_holds : (s : Store) (stored : store.Stored) (p : Problem) (bytes : List ℕ) (content : Content) → Shows s stored → bytes ≡ problem_in s → IsProblemOf bytes p → slot_size_in s ≡ slot_size (mass_width (version_in s)) p
+pub store_holds : (s : Store) (stored : store.Stored) (p : Problem) (bytes : List ℕ) (content : Content) → Shows s stored → bytes ≡ problem_in s → IsProblemOf bytes p → slot_size_in s ≡ room_for (version_in s) p
     → ((held : store.State) → stored ≡ store.Held held → ShowsState s held → content ≡ latest_read held p held.latest) → StoreHolds stored content
 store_holds s stored p bytes content shows bytes_are accepted room by =
     let held = shows.0 in
     let is : content ≡ store_read held p = by held shows.1 shows.2 ∙ sym (store_reads held p (room_of s held p shows.2 room)) in
     subst (λ (st : store.Stored). StoreHolds st content) (sym shows.1) (inr record { problem = p; accepted = accepted_of s held p bytes shows.2 bytes_are accepted; content_is = is })
 
-pub size_holds : (s : Store) (stored : store.Stored) (p : Problem) (bytes : List ℕ) → Shows s stored → bytes ≡ problem_in s → IsProblemOf bytes p → slot_size_in s ≢ slot_size (mass_width (version_in s)) p → StoreHolds stored (Damaged part.Size)
+pub size_holds : (s : Store) (stored : store.Stored) (p : Problem) (bytes : List ℕ) → Shows s stored → bytes ≡ problem_in s → IsProblemOf bytes p → slot_size_in s ≢ room_for (version_in s) p → StoreHolds stored (Damaged part.Size)
 size_holds s stored p bytes shows bytes_are accepted other =
     let held = shows.0 in
-    let differ : held.slot_size ≢ slot_size (mass_width held.version) p = λ same. other (shows.2.slot_size ∙ same ∙ ap (λ (v : ℕ). slot_size (mass_width v) p) (sym shows.2.version)) in
-    let is : Damaged part.Size ≡ store_read held p = sym (ap (λ (b : Bool). if b then latest_read held p held.latest else Damaged part.Size) (ne_eqb held.slot_size (slot_size (mass_width held.version) p) differ)) in
+    let differ : held.slot_size ≢ room_for held.version p = λ same. other (shows.2.slot_size ∙ same ∙ ap (λ (v : ℕ). room_for v p) (sym shows.2.version)) in
+    let is : Damaged part.Size ≡ store_read held p = sym (ap (λ (b : Bool). if b then latest_read held p held.latest else Damaged part.Size) (ne_eqb held.slot_size (room_for held.version p) differ)) in
     subst (λ (st : store.Stored). StoreHolds st (Damaged part.Size)) (sym shows.1) (inr record { problem = p; accepted = accepted_of s held p bytes shows.2 bytes_are accepted; content_is = is })
 
 -- ---- the disk

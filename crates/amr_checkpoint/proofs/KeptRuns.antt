@@ -48,6 +48,6 @@ run_says (Some fault.WriteFault) all stood said lines before now stands says fai
   fails,
 )
 
-pub says_of_run : (before after : OutsideAt) (all : List Content) (ended : Option KeepFault) (lines : List ℕ) → (h : Keeps before after all ended) → acknowledgements all ≡ lines
+pub says_of_run : (deltas : Option ℕ) (before after : OutsideAt) (all : List Content) (ended : Option KeepFault) (lines : List ℕ) → (h : Keeps deltas before after all ended) → acknowledgements all ≡ lines
     → SaysOfRun ended h.said lines before.err_faults after.err_faults
-says_of_run before after all ended lines h same = run_says ended all h.stood h.said lines before.err_faults after.err_faults h.stands h.says h.err_fails same
+says_of_run deltas before after all ended lines h same = run_says ended all h.stood h.said lines before.err_faults after.err_faults h.stands h.says h.err_fails same

@@ -60,9 +60,9 @@ says_on (Some fault.WriteFault) a b front made same says = record {
 
 -- ---- what was made
 
-makes_on : (xs ys : List Content) (a b c : List ℕ) → MakesAll xs a b → MakesAll ys b c → MakesAll (xs ++ ys) a c
-makes_on [] ys a b c same more = subst (λ (i : List ℕ). MakesAll ys i c) same more
-makes_on (x ∷ xs) ys a b c first more = (first.0, first.1, makes_on xs ys first.0 b c first.2 more)
+makes_on : (deltas : Option ℕ) (xs ys : List Content) (a b c : List ℕ) → MakesAll deltas xs a b → MakesAll deltas ys b c → MakesAll deltas (xs ++ ys) a c
+makes_on deltas [] ys a b c same more = subst (λ (i : List ℕ). MakesAll deltas ys i c) same more
+makes_on deltas (x ∷ xs) ys a b c first more = (first.0, first.1, makes_on deltas xs ys first.0 b c first.2 more)
 
 -- ---- what stands
 
@@ -138,8 +138,8 @@ stops_on a b c xs ys one two ended found all h k =
 no_fault : None ≢ Some fault.DiskFault
 no_fault = λ is. none-some fault.DiskFault is
 
-pub keeps_on : (a b c : OutsideAt) (xs ys : List Content) (ended : Option KeepFault) → Keeps a b xs None → Keeps b c ys ended → Keeps a c (xs ++ ys) ended
-keeps_on a b c xs ys ended h k = record {
+pub keeps_on : (deltas : Option ℕ) (a b c : OutsideAt) (xs ys : List Content) (ended : Option KeepFault) → Keeps deltas a b xs None → Keeps deltas b c ys ended → Keeps deltas a c (xs ++ ys) ended
+keeps_on deltas a b c xs ys ended h k = record {
   stood = h.stood ++ k.stood;
   said = h.said ++ k.said;
   stands = stands_on ended xs ys h.stood k.stood h.stands k.stands;
@@ -151,7 +151,7 @@ keeps_on a b c xs ys ended h k = record {
   settled = λ no only. k.settled no (h.settled no_fault only);
   made = λ no image told.
       let first = h.made no_fault image told in
-      let next = k.made no first.0 first.1 in (next.0, next.1, makes_on h.stood k.stood image first.0 next.0 first.2 next.2);
+      let next = k.made no first.0 first.1 in (next.0, next.1, makes_on deltas h.stood k.stood image first.0 next.0 first.2 next.2);
   stops = λ image found told held settled rising.
       let read = h.made no_fault image told in
       let first = h.stops image found told held settled (rising_front found xs ys rising) in
@@ -161,8 +161,8 @@ keeps_on a b c xs ys ended h k = record {
 }
 
 -- memory ran out after them
-pub keeps_ended : (a b : OutsideAt) (xs : List Content) → Keeps a b xs None → Keeps a b xs (Some fault.NoMemory)
-keeps_ended a b xs h = record {
+pub keeps_ended : (deltas : Option ℕ) (a b : OutsideAt) (xs : List Content) → Keeps deltas a b xs None → Keeps deltas a b xs (Some fault.NoMemory)
+keeps_ended deltas a b xs h = record {
   stood = h.stood;
   said = h.said;
   stands = record { rest = []; split = append-nil h.stood ∙ h.stands };
@@ -179,8 +179,8 @@ keeps_ended a b xs h = record {
 }
 
 -- and more of them were to be made
-pub keeps_longer : (a b : OutsideAt) (xs ys : List Content) (reason : KeepFault) → Keeps a b xs (Some reason) → Keeps a b (xs ++ ys) (Some reason)
-keeps_longer a b xs ys reason h = record {
+pub keeps_longer : (deltas : Option ℕ) (a b : OutsideAt) (xs ys : List Content) (reason : KeepFault) → Keeps deltas a b xs (Some reason) → Keeps deltas a b (xs ++ ys) (Some reason)
+keeps_longer deltas a b xs ys reason h = record {
   stood = h.stood;
   said = h.said;
   stands = record { rest = h.stands.rest ++ ys; split = sym (append_assoc h.stood h.stands.rest ys) ∙ ap (λ (t : List Content). t ++ ys) h.stands.split };
@@ -219,8 +219,8 @@ stops_none a all ended image found begun told held settled = record {
   held = λ no c is. subst (λ (i : List ℕ). Holds i found) (same_Some image c (sym told ∙ is)) held;
 }
 
-pub keeps_none : (a : OutsideAt) → Keeps a a [] None
-keeps_none a = record {
+pub keeps_none : (deltas : Option ℕ) (a : OutsideAt) → Keeps deltas a a [] None
+keeps_none deltas a = record {
   stood = [];
   said = [];
   stands = refl;
@@ -235,8 +235,8 @@ keeps_none a = record {
 }
 
 -- memory ran out before them
-pub keeps_nothing : (a : OutsideAt) (xs : List Content) → Keeps a a xs (Some fault.NoMemory)
-keeps_nothing a xs = record {
+pub keeps_nothing : (deltas : Option ℕ) (a : OutsideAt) (xs : List Content) → Keeps deltas a a xs (Some fault.NoMemory)
+keeps_nothing deltas a xs = record {
   stood = [];
   said = [];
   stands = record { rest = xs; split = refl };
@@ -257,14 +257,14 @@ module _ {D E : Type 0} (seen : D → Option (List ℕ)) (moment : D → ℕ) (l
   at d e = outside_at seen moment leaves disk_faults holds err_faults d e
 
   -- memory ran out in a call that left the disk as it was
-  pub keeps_untouched : (d later_d : D) (e : E) (xs : List Content) → later_d ≡ d → Keeps (at d e) (at later_d e) xs (Some fault.NoMemory)
-  keeps_untouched d later_d e xs same = subst (λ (x : D). Keeps (at d e) (at x e) xs (Some fault.NoMemory)) (sym same) (keeps_nothing (at d e) xs)
+  pub keeps_untouched : (deltas : Option ℕ) (d later_d : D) (e : E) (xs : List Content) → later_d ≡ d → Keeps deltas (at d e) (at later_d e) xs (Some fault.NoMemory)
+  keeps_untouched deltas d later_d e xs same = subst (λ (x : D). Keeps deltas (at d e) (at x e) xs (Some fault.NoMemory)) (sym same) (keeps_nothing deltas (at d e) xs)
 
   -- a call at which the disk failed
-  pub keeps_refused : (d later_d : D) (e : E) (content : Content) → disk_faults d ≤ disk_faults later_d → Rose (disk_faults d) (disk_faults later_d)
+  pub keeps_refused : (deltas : Option ℕ) (d later_d : D) (e : E) (content : Content) → disk_faults d ≤ disk_faults later_d → Rose (disk_faults d) (disk_faults later_d)
       → ((image : List ℕ) (found : Content) → seen d ≡ Some image → Holds image found → StopsIn moment leaves d later_d (λ c. Holds c found ⊎ Holds c content))
-      → Keeps (at d e) (at later_d e) (content ∷ []) (Some fault.DiskFault)
-  keeps_refused d later_d e content later rose stops = record {
+      → Keeps deltas (at d e) (at later_d e) (content ∷ []) (Some fault.DiskFault)
+  keeps_refused deltas d later_d e content later rose stops = record {
     stood = [];
     said = [];
     stands = record { rest = content ∷ []; split = refl };
@@ -311,12 +311,12 @@ module _ {D E : Type 0} (seen : D → Option (List ℕ)) (moment : D → ℕ) (l
       }
 
   -- one that is done and acknowledged
-  pub keeps_stood : (d later_d : D) (e later_e : E) (content : Content) → Grows holds e later_e (acknowledgement content) → err_faults later_e ≡ err_faults e → disk_faults later_d ≡ disk_faults d
+  pub keeps_stood : (deltas : Option ℕ) (d later_d : D) (e later_e : E) (content : Content) → Grows holds e later_e (acknowledgement content) → err_faults later_e ≡ err_faults e → disk_faults later_d ≡ disk_faults d
       → StaysTold (seen d) (seen later_d) → Only (seen later_d) (leaves later_d (moment later_d)) → ((t : List ℕ) → seen later_d ≡ Some t → Holds t content)
-      → ((image : List ℕ) → seen d ≡ Some image → ReadsWith (seen later_d) image (content ∷ []))
+      → ((image : List ℕ) → seen d ≡ Some image → ReadsWith deltas (seen later_d) image (content ∷ []))
       → ((image : List ℕ) (found : Content) → seen d ≡ Some image → Holds image found → StopsIn moment leaves d later_d (λ c. Holds c found ⊎ Holds c content))
-      → Keeps (at d e) (at later_d later_e) (content ∷ []) None
-  keeps_stood d later_d e later_e content grows no_err same told settled holds_now puts stops = record {
+      → Keeps deltas (at d e) (at later_d later_e) (content ∷ []) None
+  keeps_stood deltas d later_d e later_e content grows no_err same told settled holds_now puts stops = record {
     stood = content ∷ [];
     said = acknowledgement content;
     stands = refl;
@@ -331,12 +331,12 @@ module _ {D E : Type 0} (seen : D → Option (List ℕ)) (moment : D → ℕ) (l
   }
 
   -- one whose line did not go out whole
-  pub keeps_unsaid : (d later_d : D) (e later_e : E) (content : Content) → FallsShort holds e later_e (acknowledgement content) → Rose (err_faults e) (err_faults later_e) → disk_faults later_d ≡ disk_faults d
+  pub keeps_unsaid : (deltas : Option ℕ) (d later_d : D) (e later_e : E) (content : Content) → FallsShort holds e later_e (acknowledgement content) → Rose (err_faults e) (err_faults later_e) → disk_faults later_d ≡ disk_faults d
       → StaysTold (seen d) (seen later_d) → Only (seen later_d) (leaves later_d (moment later_d)) → ((t : List ℕ) → seen later_d ≡ Some t → Holds t content)
-      → ((image : List ℕ) → seen d ≡ Some image → ReadsWith (seen later_d) image (content ∷ []))
+      → ((image : List ℕ) → seen d ≡ Some image → ReadsWith deltas (seen later_d) image (content ∷ []))
       → ((image : List ℕ) (found : Content) → seen d ≡ Some image → Holds image found → StopsIn moment leaves d later_d (λ c. Holds c found ⊎ Holds c content))
-      → Keeps (at d e) (at later_d later_e) (content ∷ []) (Some fault.WriteFault)
-  keeps_unsaid d later_d e later_e content short rose same told settled holds_now puts stops = record {
+      → Keeps deltas (at d e) (at later_d later_e) (content ∷ []) (Some fault.WriteFault)
+  keeps_unsaid deltas d later_d e later_e content short rose same told settled holds_now puts stops = record {
     stood = content ∷ [];
     said = short.0;
     stands = record { rest = []; split = refl };

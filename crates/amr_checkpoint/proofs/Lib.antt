@@ -9,4 +9,7 @@ pub mod KeptRuns
 pub mod Written
 pub mod FromDisk
 pub mod Puts
+pub mod Causes
+pub mod Folded
+pub mod Later
 mod Rows

@@ -5,13 +5,13 @@ use Rattle.std.specs.Prelude.{◌==◌, if◌then◌else◌, Ok, Err}
 use Rattle.std.specs.Int.{w32, w64}
 use Rattle.amr_def.specs.declared.problem.Problem.{Problem}
 use Rattle.amr_def.specs.State.{State}
-use Rattle.amr_payload.specs.Payload.{IsMassWidth, slot_size}
+use Rattle.amr_payload.specs.Payload.{IsMassWidth}
 use Rattle.amr_payload.specs.Tests.{decoded}
 use Rattle.amr_problem.specs.Judgement.{IsProblemOf}
 use Rattle.amr_problem.proofs.OneProblem.{one_problem}
 use Rattle.amr_store.specs.declared.part.Part.TheVariants as part
 use Rattle.amr_store.specs.Stored as store
-use Rattle.amr_checkpoint.specs.Contents.{Content, Empty, Damaged, Fresh, At, StoreHolds, IsNoProblem, IsReadBy, latest_read, mass_width, payload_read, store_read}
+use Rattle.amr_checkpoint.specs.Contents.{Content, Empty, Damaged, Fresh, At, StoreHolds, IsNoProblem, IsReadBy, chain_read, latest_read, mass_width, payload_read, records_read, room_for, store_read}
 use Rattle.amr_checkpoint.specs.Laws.{IsJudged}
 
 -- ---- one content
@@ -43,18 +43,20 @@ holds_some (store.Held held) judged =
 pub record IsFresh (held : store.State) (p : Problem) (bytes : List ℕ) (q : Problem) : Type 0 where
   pub bytes_are : bytes ≡ held.problem
   pub problem_is : q ≡ p
-  pub room : held.slot_size ≡ slot_size (mass_width held.version) p
+  pub room : held.slot_size ≡ room_for held.version p
   pub none : held.latest ≡ None
 
--- a state
+-- a state: a whole one with the records that count applied
 pub record IsAt (held : store.State) (p : Problem) (bytes : List ℕ) (q : Problem) (s : State) (sequence : ℕ) : Type 0 where
   pub bytes_are : bytes ≡ held.problem
   pub problem_is : q ≡ p
-  pub room : held.slot_size ≡ slot_size (mass_width held.version) p
+  pub room : held.slot_size ≡ room_for held.version p
   pub entry : store.Entry
   pub latest : held.latest ≡ Some entry
-  pub sequence_stored : sequence ≡ entry.sequence
-  pub read : decoded (mass_width held.version) p entry.payload ≡ Ok s
+  pub base : State
+  pub read : decoded (mass_width held.version) p entry.payload ≡ Ok base
+  pub base_sequence : entry.sequence ≡ base.step + 1
+  pub applied : records_read p 1 base held.records ≡ Ok s
   pub sequence_is : sequence ≡ s.step + 1
 
 -- what a store's content tells of it
@@ -64,23 +66,29 @@ Tells held p (Damaged damage) = Unit {0}
 Tells held p (Fresh bytes q) = IsFresh held p bytes q
 Tells held p (At bytes q s sequence) = IsAt held p bytes q s sequence
 
-payload_tells : (held : store.State) (p : Problem) (entry : store.Entry) (r : Result State ℕ) → held.latest ≡ Some entry → held.slot_size ≡ slot_size (mass_width held.version) p
-    → decoded (mass_width held.version) p entry.payload ≡ r → Tells held p (payload_read held.problem p entry.sequence r)
+chain_tells : (held : store.State) (p : Problem) (entry : store.Entry) (base : State) (r : Result State ℕ) → held.latest ≡ Some entry → held.slot_size ≡ room_for held.version p
+    → decoded (mass_width held.version) p entry.payload ≡ Ok base → entry.sequence ≡ base.step + 1 → records_read p 1 base held.records ≡ r → Tells held p (chain_read held.problem p r)
+chain_tells held p entry base (Err j) latest room is here applied = tt
+chain_tells held p entry base (Ok s) latest room is here applied =
+    record { bytes_are = refl; problem_is = refl; room = room; entry = entry; latest = latest; base = base; read = is; base_sequence = here; applied = applied; sequence_is = refl }
+
+payload_tells : (held : store.State) (p : Problem) (entry : store.Entry) (r : Result State ℕ) → held.latest ≡ Some entry → held.slot_size ≡ room_for held.version p
+    → decoded (mass_width held.version) p entry.payload ≡ r → Tells held p (payload_read held.problem p entry.sequence held.records r)
 payload_tells held p entry (Err place) latest room is = tt
-payload_tells held p entry (Ok s) latest room is = chosen (entry.sequence == (s.step + 1)) refl
+payload_tells held p entry (Ok base) latest room is = chosen (entry.sequence == (base.step + 1)) refl
   where
-    chosen : (b : Bool) → (entry.sequence == (s.step + 1)) ≡ b → Tells held p (if b then At held.problem p s entry.sequence else Damaged part.Sequence)
-    chosen true same = record { bytes_are = refl; problem_is = refl; room = room; entry = entry; latest = latest; sequence_stored = refl; read = is; sequence_is = eqb-true _ _ same }
+    chosen : (b : Bool) → (entry.sequence == (base.step + 1)) ≡ b → Tells held p (if b then chain_read held.problem p (records_read p 1 base held.records) else Damaged part.Sequence)
+    chosen true same = chain_tells held p entry base (records_read p 1 base held.records) latest room is (eqb-true _ _ same) refl
     chosen false other = tt
 
-latest_tells : (held : store.State) (p : Problem) (latest : Option store.Entry) → held.latest ≡ latest → held.slot_size ≡ slot_size (mass_width held.version) p → Tells held p (latest_read held p latest)
+latest_tells : (held : store.State) (p : Problem) (latest : Option store.Entry) → held.latest ≡ latest → held.slot_size ≡ room_for held.version p → Tells held p (latest_read held p latest)
 latest_tells held p None latest room = record { bytes_are = refl; problem_is = refl; room = room; none = latest }
 latest_tells held p (Some entry) latest room = payload_tells held p entry (decoded (mass_width held.version) p entry.payload) latest room refl
 
 pub store_tells : (held : store.State) (p : Problem) → Tells held p (store_read held p)
-store_tells held p = chosen (held.slot_size == slot_size (mass_width held.version) p) refl
+store_tells held p = chosen (held.slot_size == room_for held.version p) refl
   where
-    chosen : (b : Bool) → (held.slot_size == slot_size (mass_width held.version) p) ≡ b → Tells held p (if b then latest_read held p held.latest else Damaged part.Size)
+    chosen : (b : Bool) → (held.slot_size == room_for held.version p) ≡ b → Tells held p (if b then latest_read held p held.latest else Damaged part.Size)
     chosen true same = latest_tells held p held.latest refl (eqb-true _ _ same)
     chosen false other = tt
 

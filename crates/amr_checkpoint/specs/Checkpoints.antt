@@ -1,20 +1,27 @@
 -- What reading a disk gives, and what a run goes on from. (profile)
-use Rattle.std.specs.Prelude.{ℕ, ◌≡◌, ◌+◌, ◌≤◌, ◌==◌, ⊤, false, List, Option, Some, None, if◌then◌else◌}
+use Rattle.std.specs.Prelude.{ℕ, ◌≡◌, ◌≢◌, ◌+◌, ◌≤◌, ◌<◌, ◌⊎◌, ◌==◌, ⊤, Bool, true, false, List, [], ◌∷◌, Option, Some, None, IfSome, if◌then◌else◌}
 use Rattle.std.specs.List.{All}
 use Rattle.amr_start.specs.PatchBoxes.{IsChopped}
 use Rattle.amr_def.specs.declared.problem.Problem.{Problem}
 use Rattle.amr_def.specs.Facts.{IsSound}
+use Rattle.amr_def.specs.State.{State}
+use Rattle.amr_causes.specs.Causes.{Rose}
+use Rattle.amr_disk.specs.Moments.{StopsIn}
+use Rattle.amr_payload.specs.Delta.{IsLater}
 use Rattle.amr_patch.specs.declared.meshes.Mesh.{Mesh}
 use Rattle.amr_patch.specs.Meshes.{is_spent, levels_of, state_of}
-use Rattle.amr_payload.specs.Payload.{slot_size}
 use Rattle.amr_problem.specs.Judgement.{IsProblemOf}
 use Rattle.amr_store.specs.declared.store.Store.{Store}
-use Rattle.amr_store.specs.Stands.{IsStoreReady, is_shut, last_in, problem_in, slot_size_in, version_in}
-use Rattle.amr_checkpoint.specs.declared.reading.Checkpoint.{Checkpoint}
-use Rattle.amr_checkpoint.specs.declared.reading.Checkpoint.TheVariants as read
-use Rattle.amr_checkpoint.specs.declared.resuming.Resumed.{Resumed}
-use Rattle.amr_checkpoint.specs.declared.resuming.Resumed.TheVariants as resumed
-use Rattle.amr_checkpoint.specs.Contents.{Content, Empty, Damaged, Fresh, At, mass_width}
+use Rattle.amr_store.specs.Stands.{IsStoreReady, chain_in, deltas_in, is_shut, last_in, problem_in, slot_size_in, version_in}
+use Rattle.amr_checkpoint.specs.declared.checkpoint.KeptStore.{KeptStore}
+use Rattle.amr_checkpoint.specs.declared.contents.Checkpoint.{Checkpoint}
+use Rattle.amr_checkpoint.specs.declared.contents.Checkpoint.TheVariants as read
+use Rattle.amr_checkpoint.specs.declared.resumption.Resumed.{Resumed}
+use Rattle.amr_checkpoint.specs.declared.resumption.Resumed.TheVariants as resumed
+use Rattle.amr_checkpoint.specs.declared.faults.CheckpointFault.{CheckpointFault}
+use Rattle.amr_checkpoint.specs.declared.faults.CheckpointFault.TheVariants.{DiskFault, NoMemory}
+use Rattle.amr_checkpoint.specs.Contents.{Content, Empty, Damaged, Fresh, At, Holds, room_for}
+use Rattle.amr_checkpoint.specs.Made.{ReadsWith, takes_record}
 
 -- a mesh holds a state with the sequence of its step and one
 abbrev pub content_at_mesh : List ℕ → Problem → Mesh → Content
@@ -44,7 +51,7 @@ renewed_version version = if version == 1 then 2 else version
 -- a store of the problem, with room for its states, that is not shut
 pub record IsStoreFor (p : Problem) (store : Store) : Type 0 where
   pub accepted : IsProblemOf (problem_in store) p
-  pub room : slot_size_in store ≡ slot_size (mass_width (version_in store)) p
+  pub room : slot_size_in store ≡ room_for (version_in store) p
   pub unshut : is_shut store ≡ false
 
 -- a mesh of the problem: its state is sound, and it is in patches
@@ -53,15 +60,69 @@ pub record IsMeshFor (p : Problem) (mesh : Mesh) : Type 0 where
   pub sound : IsSound p (state_of mesh)
   pub chopped : All (IsChopped p.max_grid_size) (levels_of mesh)
 
--- a store without a state
-pub record IsFreshStore (p : Problem) (store : Store) : Type 0 where
-  pub store_is : IsStoreFor p store
-  pub none : last_in store ≡ None
-
 -- a store whose latest state has this sequence
 pub record IsStorePast (p : Problem) (sequence : ℕ) (store : Store) : Type 0 where
   pub store_is : IsStoreFor p store
   pub last : last_in store ≡ Some sequence
+
+-- a mesh is the latest state of a store, which the next one is put on as a record
+pub record IsLatest (p : Problem) (store : Store) (s : State) (mesh : Mesh) : Type 0 where
+  pub whole : is_spent mesh ≡ false
+  pub sound : IsSound p (state_of mesh)
+  pub last : last_in store ≡ Some ((state_of mesh).step + 1)
+  pub older : IsLater (state_of mesh) s
+  pub version : version_in store ≡ 3
+
+-- it is kept beside the store exactly where the next state is put so
+abbrev pub KeepsLatest : Problem → Store → Option Mesh → State → Type 0
+KeepsLatest p store None s = takes_record store ≡ false
+KeepsLatest p store (Some mesh) s = (takes_record store ≡ true) × IsLatest p store s mesh
+
+-- and then it is what the disk holds
+abbrev pub HoldsLatest : Option (List ℕ) → Problem → Store → Option Mesh → Type 0
+HoldsLatest seen p store None = ⊤
+HoldsLatest seen p store (Some mesh) = (image : List ℕ) → seen ≡ Some image → Holds image (content_at_mesh (problem_in store) p mesh)
+
+-- a state may be put into the store next
+pub record MayPut {D : Type 0} (seen : D → Option (List ℕ)) (moment : D → ℕ) (leaves : D → ℕ → List ℕ → Type 0) (p : Problem) (kept : KeptStore) (s : State)
+    (disk : D) : Type 0 where
+  pub store_is : IsStoreFor p kept.store
+  pub above : IfSome (last_in kept.store) (λ last. last < s.step + 1)
+  pub ready : IsStoreReady seen moment leaves kept.store disk
+  pub latest : KeepsLatest p kept.store kept.latest s
+  pub held : HoldsLatest (seen disk) p kept.store kept.latest
+
+-- a state was put into the store: now it is the latest, with so many records behind the latest whole one
+pub record IsStoreAfter (p : Problem) (sequence chain : ℕ) (old store : Store) : Type 0 where
+  pub past : IsStorePast p sequence store
+  pub version : version_in store ≡ renewed_version (version_in old)
+  pub problem : problem_in store ≡ problem_in old
+  pub deltas : deltas_in store ≡ deltas_in old
+  pub chain_is : chain_in store ≡ chain
+
+-- a copy of a state is there exactly where it is asked for
+abbrev pub IsCopyWhere : Bool → State → Option Mesh → Type 0
+IsCopyWhere wanted s None = wanted ≡ false
+IsCopyWhere wanted s (Some copy) = (wanted ≡ true) × (state_of copy ≡ s) × (is_spent copy ≡ false)
+
+-- What a call did that puts a state into a store of these bytes, by its refusal. Where it is done the disk holds the state, and nothing else was
+-- written. A stop at any moment leaves what the disk held, or the new state. Where memory ran out the disk is as it was.
+pub record IsPut {D : Type 0} (seen : D → Option (List ℕ)) (moment : D → ℕ) (leaves : D → ℕ → List ℕ → Type 0) (faults : D → ℕ) (bytes : List ℕ) (p : Problem)
+    (s : State) (refused : Option CheckpointFault) (old new : D) : Type 0 where
+  pub holds : refused ≡ None → (image : List ℕ) → seen new ≡ Some image → Holds image (At bytes p s (s.step + 1))
+  pub told : refused ≡ None → StaysTold (seen old) (seen new)
+  pub made : refused ≡ None → (deltas : Option ℕ) (image : List ℕ) → seen old ≡ Some image → ReadsWith deltas (seen new) image (At bytes p s (s.step + 1) ∷ [])
+  pub stops : (image : List ℕ) (content : Content) → seen old ≡ Some image → Holds image content
+      → StopsIn moment leaves old new (λ c. Holds c content ⊎ Holds c (At bytes p s (s.step + 1)))
+  pub memory : refused ≡ Some NoMemory → new ≡ old
+  pub later : faults old ≤ faults new
+  pub failed : refused ≡ Some DiskFault → Rose (faults old) (faults new)
+  pub no_fault : refused ≢ Some DiskFault → faults new ≡ faults old
+
+-- a store without a state
+pub record IsFreshStore (p : Problem) (store : Store) : Type 0 where
+  pub store_is : IsStoreFor p store
+  pub none : last_in store ≡ None
 
 -- a store at the mesh's state
 pub record IsStoreAt (p : Problem) (store : Store) (mesh : Mesh) : Type 0 where
@@ -92,13 +153,6 @@ abbrev pub IsResumedReady : {D : Type 0} → (D → Option (List ℕ)) → (D �
 IsResumedReady seen moment leaves resumed.Nothing disk = ⊤
 IsResumedReady seen moment leaves (resumed.Fresh store) disk = IsStoreReady seen moment leaves store disk
 IsResumedReady seen moment leaves (resumed.At store mesh) disk = IsStoreReady seen moment leaves store disk
-
--- the store in it is this one
-abbrev pub HasStore : Store → Checkpoint → Type 0
-HasStore store read.Empty = ⊤
-HasStore store (read.Damaged damage) = ⊤
-HasStore store (read.Fresh other p) = other ≡ store
-HasStore store (read.At other p mesh) = other ≡ store
 
 -- a run goes on with the store that was read
 abbrev pub TakesStore : Checkpoint → Resumed → Type 0

@@ -1,10 +1,11 @@
--- What an image of the store's file holds for a program: the store's own readings, and then those by its problem and its latest state,
--- the first that applies. (profile)
-use Rattle.std.specs.Prelude.{ℕ, ◌≡◌, ◌+◌, ◌==◌, ⊤, ◌⊎◌, List, Option, Some, None, Result, Ok, Err, if◌then◌else◌}
+-- What an image of the store's file holds for a program: the store's own readings, and then those by its problem, by its latest whole state and
+-- by the records behind it, the first that applies. (profile)
+use Rattle.std.specs.Prelude.{ℕ, ◌≡◌, ◌+◌, ◌==◌, ⊤, ◌⊎◌, List, [], ◌∷◌, Option, Some, None, Result, Ok, Err, if◌then◌else◌}
 use Rattle.std.specs.Int.{Width, w32, w64}
 use Rattle.amr_def.specs.declared.problem.Problem.{Problem}
 use Rattle.amr_def.specs.Run.{run, start}
 use Rattle.amr_def.specs.State.{State}
+use Rattle.amr_payload.specs.Delta.{delta_decoded, delta_size}
 use Rattle.amr_payload.specs.Payload.{slot_size}
 use Rattle.amr_payload.specs.Tests.{decoded}
 use Rattle.amr_problem.specs.declared.fault.ProblemFault.{ProblemFault}
@@ -20,22 +21,49 @@ pub data Content : Type 0 where
   Fresh : (bytes : List ℕ) (problem : Problem) → Content
   At : (bytes : List ℕ) (problem : Problem) (state : State) (sequence : ℕ) → Content
 
--- how wide a mass is in a store of this version
+-- how wide a mass is in a whole state in a store of this version
 abbrev pub mass_width : ℕ → Width
 mass_width version = if version == 1 then w64 else w32
 
--- the latest payload: bad at a place, or of a state, whose sequence is its step and one
-abbrev pub payload_read : List ℕ → Problem → ℕ → Result State ℕ → Content
-payload_read bytes p sequence (Err place) = Damaged (part.State place)
-payload_read bytes p sequence (Ok s) = if sequence == s.step + 1 then At bytes p s sequence else Damaged part.Sequence
+-- how many bytes a slot has in a store of this version: enough for each state of the problem, in version 3 for each record too
+abbrev pub room_for : ℕ → Problem → ℕ
+room_for version p = if version == 3 then delta_size p else slot_size (mass_width version) p
+
+-- a state whose sequence is its step and one
+abbrev pub in_sequence : ℕ → Result State ℕ → Option State
+in_sequence sequence (Err place) = None
+in_sequence sequence (Ok s) = if sequence == s.step + 1 then Some s else None
+
+-- the state that a record is of, on an older one; none where it is bad or out of sequence
+abbrev pub record_read : Problem → State → store.Entry → Option State
+record_read p old entry = in_sequence entry.sequence (delta_decoded p old (old.step + 1) entry.payload)
+
+-- what follows a record of number j goes by its state
+abbrev pub then_on : ℕ → Option State → (State → Result State ℕ) → Result State ℕ
+then_on j None next = Err j
+then_on j (Some s) next = next s
+
+-- a state with the records from number j on applied, each on the one before; or the number of the first that is none
+abbrev pub records_read : Problem → ℕ → State → List store.Entry → Result State ℕ
+records_read p j s [] = Ok s
+records_read p j s (entry ∷ rest) = then_on j (record_read p s entry) (λ next. records_read p (j + 1) next rest)
+
+abbrev pub chain_read : List ℕ → Problem → Result State ℕ → Content
+chain_read bytes p (Err j) = Damaged (part.Chain j)
+chain_read bytes p (Ok s) = At bytes p s (s.step + 1)
+
+-- the latest whole state: bad at a place, or a state, whose sequence is its step and one, with the records that count applied
+abbrev pub payload_read : List ℕ → Problem → ℕ → List store.Entry → Result State ℕ → Content
+payload_read bytes p sequence records (Err place) = Damaged (part.State place)
+payload_read bytes p sequence records (Ok s) = if sequence == s.step + 1 then chain_read bytes p (records_read p 1 s records) else Damaged part.Sequence
 
 abbrev pub latest_read : store.State → Problem → Option store.Entry → Content
 latest_read held p None = Fresh held.problem p
-latest_read held p (Some entry) = payload_read held.problem p entry.sequence (decoded (mass_width held.version) p entry.payload)
+latest_read held p (Some entry) = payload_read held.problem p entry.sequence held.records (decoded (mass_width held.version) p entry.payload)
 
 -- a store by its problem, whose states it has room for, no more and no less
 abbrev pub store_read : store.State → Problem → Content
-store_read held p = if held.slot_size == slot_size (mass_width held.version) p then latest_read held p held.latest else Damaged part.Size
+store_read held p = if held.slot_size == room_for held.version p then latest_read held p held.latest else Damaged part.Size
 
 -- the store's bytes are no problem
 pub record IsNoProblem (held : store.State) (content : Content) : Type 0 where

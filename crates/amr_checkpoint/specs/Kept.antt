@@ -5,7 +5,7 @@ use Rattle.amr_causes.specs.Causes.{Rose}
 use Rattle.amr_io.specs.Short.{IsProperPrefix}
 use Rattle.amr_def.specs.declared.problem.Problem.{Problem}
 use Rattle.amr_def.specs.State.{State}
-use Rattle.amr_checkpoint.specs.declared.acknowledging.Keeping.{Keeping}
+use Rattle.amr_checkpoint.specs.declared.acknowledgement.Keeping.{Keeping}
 use Rattle.amr_checkpoint.specs.declared.faults.KeepFault.{KeepFault}
 use Rattle.amr_checkpoint.specs.declared.faults.KeepFault.TheVariants as fault
 use Rattle.amr_checkpoint.specs.Contents.{Content, At, Holds}
@@ -17,15 +17,17 @@ use Rattle.amr_checkpoint.specs.Outside.{DiskAt, IsDurable, SaysMore, OutsideAt}
 
 -- ---- what is kept
 
--- a run that keeps checkpoints: the bytes of its problem, the problem, how many steps lie between marks, and the step that it goes to
+-- a run that keeps checkpoints: the bytes of its problem, the problem, how many steps lie between marks, the step that it goes to, and how many
+-- records follow each whole state in a store that it makes, where any do
 pub record KeptRun : Type 0 where
   pub bytes : List ℕ
   pub problem : Problem
   pub every : ℕ
   pub target : ℕ
+  pub deltas : Option ℕ
 
 abbrev pub run_of : List ℕ → Keeping → KeptRun
-run_of bytes keeping = record { bytes = bytes; problem = keeping.problem.now; every = keeping.every; target = keeping.target }
+run_of bytes keeping = record { bytes = bytes; problem = keeping.problem.now; every = keeping.every; target = keeping.target; deltas = keeping.deltas }
 
 -- what the store comes to hold by these states of it, in their order: those whose steps are marks
 abbrev pub checkpoints_of : KeptRun → List State → List Content
@@ -111,7 +113,7 @@ pub record StopsThrough (before after : DiskAt) (found : Content) (all stood : L
 -- Calls that were to make all these of a store, one after another, and then to acknowledge each on a stream of errors. Of them all stand at the
 -- end, or the first ones, and are acknowledged. But where the disk failed each was put whole and nothing else was written, and a stop leaves what
 -- a read gives, if it did before.
-pub record Keeps (before after : OutsideAt) (all : List Content) (ended : Option KeepFault) : Type 0 where
+pub record Keeps (deltas : Option ℕ) (before after : OutsideAt) (all : List Content) (ended : Option KeepFault) : Type 0 where
   pub stood : List Content
   pub said : List ℕ
   pub stands : StandsBy ended all stood
@@ -121,16 +123,16 @@ pub record Keeps (before after : OutsideAt) (all : List Content) (ended : Option
   pub later : before.disk_faults ≤ after.disk_faults
   pub fails : FailsBy ended before.disk_faults after.disk_faults
   pub settled : ended ≢ Some fault.DiskFault → IsDurable before.disk → IsDurable after.disk
-  pub made : ended ≢ Some fault.DiskFault → (image : List ℕ) → before.disk.seen ≡ Some image → ReadsWith after.disk.seen image stood
+  pub made : ended ≢ Some fault.DiskFault → (image : List ℕ) → before.disk.seen ≡ Some image → ReadsWith deltas after.disk.seen image stood
   pub stops : (image : List ℕ) (found : Content) → before.disk.seen ≡ Some image → Holds image found → IsDurable before.disk → AreRising found all
       → StopsThrough before.disk after.disk found all stood ended
 
 -- What became of a disk since a time at which it read as the image, where calls were to make all that of it and said this: a stop leaves what was
 -- found then or made last, or what is made next. But where the disk failed it reads as it did then, with what was made and nothing else.
-pub record History (after : DiskAt) (found : Time) (image : List ℕ) (all : List Content) (said : List ℕ) (ended : Option KeepFault) : Type 0 where
+pub record History (deltas : Option ℕ) (after : DiskAt) (found : Time) (image : List ℕ) (all : List Content) (said : List ℕ) (ended : Option KeepFault) : Type 0 where
   pub times : List Time
   pub attempt : Option Content
   pub leave : StopsLeave after.leaves found after.moment all times attempt
   pub begun : IsBegunBy ended attempt
   pub acknowledged : IsSaid ended said (contents_of times)
-  pub made : ended ≢ Some fault.DiskFault → ReadsWith after.seen image (contents_of times)
+  pub made : ended ≢ Some fault.DiskFault → ReadsWith deltas after.seen image (contents_of times)

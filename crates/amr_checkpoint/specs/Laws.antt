@@ -7,14 +7,15 @@ use Rattle.amr_def.specs.Facts.{IsSound}
 use Rattle.amr_def.specs.Plot.{plot}
 use Rattle.amr_def.specs.Run.{finish, run}
 use Rattle.amr_def.specs.State.{State}
+use Rattle.amr_payload.specs.Delta.{IsLater, delta_bytes}
 use Rattle.amr_payload.specs.Payload.{payload, slot_size}
 use Rattle.amr_problem.specs.declared.fault.ProblemFault.{ProblemFault}
 use Rattle.amr_problem.specs.Judgement.{IsProblemOf, fault_of}
-use Rattle.amr_store.specs.Created.{IsVersion, new_state}
+use Rattle.amr_store.specs.Created.{HasNumber, state_with}
 use Rattle.amr_store.specs.Renewed.{renewed_state}
 use Rattle.amr_store.specs.Stored as store
 use Rattle.amr_checkpoint.specs.declared.refusal.Refusal.{Refusal}
-use Rattle.amr_checkpoint.specs.Contents.{Content, Empty, Damaged, Fresh, At, Holds, IsReached, mass_width, rank, state_from}
+use Rattle.amr_checkpoint.specs.Contents.{Content, Empty, Damaged, Fresh, At, Holds, IsReached, mass_width, rank, room_for, state_from}
 use Rattle.amr_checkpoint.specs.Marks.{acknowledgements, answer_of_run, checkpoint_line, marks, to_make}
 use Rattle.amr_checkpoint.specs.Refusals.{CanShow, GoesOn, RefusesRun, RefusesShow}
 
@@ -46,25 +47,31 @@ HoldsSound =
 
 -- ---- what is made
 
--- a new store has room for the problem's states
+-- a new store of any version has room for the problem's states
 abbrev pub CreationHolds : Type 0
-CreationHolds = (image bytes : List ℕ) (p : Problem) (version : ℕ) → IsVersion version → IsProblemOf bytes p
-    → store.stored image ≡ store.Held (new_state version bytes (slot_size (mass_width version) p)) → Holds image (Fresh bytes p)
+CreationHolds = (image bytes : List ℕ) (p : Problem) (version deltas : ℕ) → HasNumber version deltas → IsProblemOf bytes p
+    → store.stored image ≡ store.Held (state_with version deltas bytes (room_for version p)) → Holds image (Fresh bytes p)
 
--- a store with room for its problem's states
-pub record IsStoreOf (held : store.State) (bytes : List ℕ) (p : Problem) : Type 0 where
+-- what is stored is of this problem, with room for its states
+pub record StoresProblem (held : store.State) (bytes : List ℕ) (p : Problem) : Type 0 where
   pub bytes_are : held.problem ≡ bytes
   pub accepted : IsProblemOf bytes p
-  pub room : held.slot_size ≡ slot_size (mass_width held.version) p
+  pub room : held.slot_size ≡ room_for held.version p
 
 -- the payload of a sound state, put with the sequence of its step and one
 abbrev pub PutHolds : Type 0
 PutHolds =
-    (before image bytes : List ℕ) (p : Problem) (held : store.State) (s : State) → store.stored before ≡ store.Held held → IsStoreOf held bytes p
+    (before image bytes : List ℕ) (p : Problem) (held : store.State) (s : State) → store.stored before ≡ store.Held held → StoresProblem held bytes p
     → IsSound p s
     → store.stored image ≡ store.with_latest (store.stored before) (s.step + 1) (payload (mass_width held.version) s) → Holds image (At bytes p s (s.step + 1))
 
--- and the renewal of a store of version 1 with it
+-- the record of a later state on the one that is held
+abbrev pub RecordHolds : Type 0
+RecordHolds =
+    (before image bytes : List ℕ) (p : Problem) (old s : State) → Holds before (At bytes p old (old.step + 1)) → IsSound p old → IsSound p s → IsLater old s
+    → store.stored image ≡ store.with_record (store.stored before) (s.step + 1) (delta_bytes old (old.step + 1) s) → Holds image (At bytes p s (s.step + 1))
+
+-- and the renewal of a store of version 1 with a state
 abbrev pub RenewalHolds : Type 0
 RenewalHolds = (image bytes : List ℕ) (p : Problem) (s : State) → IsProblemOf bytes p → IsSound p s
     → store.stored image ≡ store.Held (renewed_state bytes (slot_size w32 p) (s.step + 1) (payload w32 s)) → Holds image (At bytes p s (s.step + 1))

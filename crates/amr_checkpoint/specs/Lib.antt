@@ -4,6 +4,7 @@ pub mod Refusals
 pub mod Times
 pub mod Reasons
 pub mod Checkpoints
+pub mod Reads
 pub mod Laws
 pub mod Outside
 pub mod Kept

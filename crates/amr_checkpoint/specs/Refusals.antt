@@ -58,12 +58,14 @@ CanShow (At kept p s sequence) = ⊤
 abbrev pub part_text : Part → List ℕ
 part_text part.Head = codes "head"
 part_text part.Text = codes "text"
+part_text part.Deltas = codes "deltas"
 part_text part.Size = codes "size"
 part_text (part.Slot k) = spaced (codes "slot" ∷ decimal k ∷ [])
 part_text part.Tie = codes "tie"
 part_text part.Problem = codes "problem"
 part_text (part.State place) = spaced (codes "state" ∷ decimal place ∷ [])
 part_text part.Sequence = codes "sequence"
+part_text (part.Chain j) = spaced (codes "record" ∷ decimal j ∷ [])
 part_text part.Renewal = codes "renewal"
 
 abbrev pub refusal_text : Refusal → List ℕ

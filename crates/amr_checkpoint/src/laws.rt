@@ -3,7 +3,7 @@ ghost use Rattle.std.specs.Prelude.{ℕ, ◌≤◌, List, Option};
 ghost use Rattle.amr_def.specs.declared.problem.Problem.{Problem};
 ghost use Rattle.amr_checkpoint.specs.Contents.{Content};
 ghost use Rattle.amr_checkpoint.specs.Laws.{AcknowledgesMarks, CheckpointsRise, CheckpointsRunOn, CreationHolds, GoesOnOrRefuses, HoldsOne, HoldsSome};
-ghost use Rattle.amr_checkpoint.specs.Laws.{HoldsSound, IsLeftBy, NotBoth, NotBothShown, PutHolds, RefusesOnce, RenewalHolds, RunsOn, SameRun};
+ghost use Rattle.amr_checkpoint.specs.Laws.{HoldsSound, IsLeftBy, NotBoth, NotBothShown, PutHolds, RecordHolds, RefusesOnce, RenewalHolds, RunsOn, SameRun};
 ghost use Rattle.amr_checkpoint.specs.Laws.{ShowsOrRefuses};
 ghost use Rattle.amr_checkpoint.specs.Marks.{to_make};
 ghost use Rattle.amr_checkpoint.specs.Times.{Time, StopsLeave};
@@ -21,10 +21,11 @@ pub fn stored_state_is_sound()
     ensures { HoldsSound }
 {}
 
-/// What a creation, a put and a renewal make is held: no state yet, or the state that was put.
+/// What a creation, a put, whole or of a record, and a renewal make is held: no state yet, or the state that was put.
 pub fn what_is_made_is_held()
     ensures creation { CreationHolds }
     ensures put { PutHolds }
+    ensures recorded { RecordHolds }
     ensures renewal { RenewalHolds }
 {}
 

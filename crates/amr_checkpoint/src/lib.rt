@@ -9,27 +9,28 @@
 //! - `specs/Laws.antt`: laws of these, each of which a call with an empty body ensures.
 #![tactic(auto)]
 
-mod acknowledging;
+mod acknowledgement;
+mod checkpoint;
+mod contents;
 mod difference;
 mod faults;
-mod keeping;
+mod latest;
 mod laws;
 mod lines;
 mod marks;
-mod reading;
 mod refusal;
-mod resuming;
+mod resumption;
 
-pub use acknowledging::{Keeping, keep_state};
+pub use acknowledgement::{Keeping, keep_state};
+pub use checkpoint::{KeptStore, make_store, put_checkpoint};
+pub use contents::{Checkpoint, read_checkpoint};
 pub use difference::first_difference;
 pub use faults::{CheckpointFault, KeepFault, ResumeFault};
-pub use keeping::{make_store, put_checkpoint};
 pub use laws::{
     checkpoints_rise, image_holds_one, run_goes_on_or_is_refused, same_run, stops_leave_the_run,
     stored_state_is_sound, what_is_made_is_held,
 };
 pub use lines::{put_checkpoint_line, put_refusal};
 pub use marks::is_mark;
-pub use reading::{Checkpoint, read_checkpoint};
 pub use refusal::Refusal;
-pub use resuming::{Resumed, Shown, resume, show};
+pub use resumption::{Resumed, Shown, resume, show};

@@ -71,6 +71,7 @@ fn put_damaged<E: Sink>(err: &mut E, part: Part) -> Result<(), WriteFault>
     match part {
         Part::Head => write_fragments(err, &[Fragment::Str("amr: store damaged: head\n")]),
         Part::Text => write_fragments(err, &[Fragment::Str("amr: store damaged: text\n")]),
+        Part::Deltas => write_fragments(err, &[Fragment::Str("amr: store damaged: deltas\n")]),
         Part::Size => write_fragments(err, &[Fragment::Str("amr: store damaged: size\n")]),
         Part::Slot(number) => write_fragments(
             err,
@@ -91,6 +92,14 @@ fn put_damaged<E: Sink>(err: &mut E, part: Part) -> Result<(), WriteFault>
             ],
         ),
         Part::Sequence => write_fragments(err, &[Fragment::Str("amr: store damaged: sequence\n")]),
+        Part::Chain(number) => write_fragments(
+            err,
+            &[
+                Fragment::Str("amr: store damaged: record "),
+                Fragment::Number(u64::from(number)),
+                Fragment::Str("\n"),
+            ],
+        ),
         Part::Renewal => write_fragments(err, &[Fragment::Str("amr: store damaged: renewal\n")]),
     }
 }

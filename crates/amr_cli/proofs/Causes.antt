@@ -13,7 +13,7 @@ use Rattle.clap.specs.ValueTests.{accepts}
 use Rattle.clap.specs.Walk.{Held, Names, Row, Rule, Text, Walk, after_step, answers_to, arg_by_id, finished, first_of, idle, settled, subcommand_or_other, walked_from, nothing_held, rows_after, stop_after, walk, walk_from, walked}
 use Rattle.clap.specs.declared.builder.value_parser.ValueParser.TheVariants as parser
 use Rattle.clap.proofs.ValueTestLemmas.{accepts-Accepts}
-use Rattle.amr_cli.specs.Table.{NumberRow, keep, number, size, to, workers}
+use Rattle.amr_cli.specs.Table.{NumberRow, deltas, keep, number, size, to, workers}
 use Rattle.amr_cli.specs.Program.{program_app}
 use Rattle.amr_cli.specs.Numbers.{in_range, number_of}
 use Rattle.amr_cli.specs.Words.{batch_of, command_from, command_of, may_be_command, is_command_name, is_help, option_of, or_one, place_of, run_by, run_of, trial_of, workers_of}
@@ -66,7 +66,10 @@ run_plain = (
     record { own = refl; action = inl refl; some = λ _. refl; no_default = refl },
     (
       record { own = refl; action = inl refl; some = λ _. refl; no_default = refl },
-      (record { own = refl; action = inr refl; some = λ e. absurd (cc); no_default = refl }, tt),
+      (
+        record { own = refl; action = inl refl; some = λ _. refl; no_default = refl },
+        (record { own = refl; action = inr refl; some = λ e. absurd (cc); no_default = refl }, tt),
+      ),
     ),
   ),
 )
@@ -95,14 +98,20 @@ all_three f (Some x) None c ha hb hc = absurd (true≢false (sym hb))
 all_three f (Some x) (Some y) None ha hb hc = absurd (true≢false (sym hc))
 all_three f (Some x) (Some y) (Some z) ha hb hc = refl
 
+all_four : {A B C D E : Type 0} (f : A → B → C → D → E) (a : Option A) (b : Option B) (c : Option C) (d : Option D) → is_some a ≡ true → is_some b ≡ true → is_some c ≡ true → is_some d ≡ true
+    → is_some (option_and_then (λ x. option_and_then (λ y. option_and_then (λ z. option_map (λ w. f x y z w) d) c) b) a) ≡ true
+all_four f None b c d ha hb hc hd = absurd (true≢false (sym ha))
+all_four f (Some x) b c d ha hb hc hd = all_three (λ y z w. f x y z w) b c d hb hc hd
+
 run_read : (words : List Text) → level_fault run_shape [] nothing_held words false [] ≡ [] → is_some (run_of (rows_after run_shape.rules [] words)) ≡ true
 run_read words none =
     let rows = rows_after run_shape.rules [] words in
     let fit = rows_fit run_shape run_plain words none in
-    all_three (λ w k e. run_by w k e) (workers_of rows) (option_of to rows) (option_of keep rows)
+    all_four (λ w k e d. run_by w k e d) (workers_of rows) (option_of to rows) (option_of keep rows) (option_of deltas rows)
     (some_map or_one (option_of workers rows) (option_read workers run_shape.rules _ refl refl rows fit))
     (option_read to run_shape.rules _ refl refl rows fit)
     (option_read keep run_shape.rules _ refl refl rows fit)
+    (option_read deltas run_shape.rules _ refl refl rows fit)
 
 given_both : (a b : Bool) → check_kinds false false ((not a) || ((not b) || false)) ≡ [] → (a ≡ true) × (b ≡ true)
 given_both true true h = (refl, refl)

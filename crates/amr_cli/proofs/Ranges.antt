@@ -4,7 +4,7 @@ use Rattle.std.specs.Str.{bytes_eq}
 use Rattle.std.proofs.lemmas.Bool.{and_parts}
 use Rattle.std.proofs.lemmas.Option.{cond_some, none-some, same_Some, IfSome_then, option_and_then_some}
 use Rattle.clap.specs.Words.{Row, Text, first_of}
-use Rattle.amr_cli.specs.Table.{NumberRow, keep, number, size, to, workers}
+use Rattle.amr_cli.specs.Table.{NumberRow, deltas, keep, number, size, to, workers}
 use Rattle.amr_cli.specs.Numbers.{in_range, number_of}
 use Rattle.amr_cli.specs.Words.{HasRanges, HasWorkers, batch_of, command_from, option_of, or_one, place_of, run_by, run_of, trial_of, workers_of}
 use Rattle.amr_cli.specs.declared.command.Command.{Command}
@@ -68,11 +68,13 @@ Has command = HasWorkers command × HasRanges command
 
 run_has : (command : Command) (rows : List Row) → run_of rows ≡ Some command → Has command
 run_has command rows is =
-    option_and_then_some (λ (w : ℕ). option_and_then (λ (k : Option ℕ). option_map (λ (e : Option ℕ). run_by w k e) (option_of keep rows)) (option_of to rows)) (workers_of rows) command is
-    (λ w w_is rest. option_and_then_some (λ (k : Option ℕ). option_map (λ (e : Option ℕ). run_by w k e) (option_of keep rows)) (option_of to rows) command rest
-    (λ k k_is last. mapped_some (λ (e : Option ℕ). run_by w k e) (option_of keep rows) command last
-    (λ e e_is made. subst Has made
-    (workers_within rows w w_is, (IfSome_then k (option_ranged to rows k k_is) (λ _ p. p.1), option_ranged keep rows e e_is)))))
+    let last = λ (w : ℕ) (k e : Option ℕ). option_map (λ (d : Option ℕ). run_by w k e d) (option_of deltas rows) in
+    option_and_then_some (λ (w : ℕ). option_and_then (λ (k : Option ℕ). option_and_then (last w k) (option_of keep rows)) (option_of to rows)) (workers_of rows) command is
+    (λ w w_is rest. option_and_then_some (λ (k : Option ℕ). option_and_then (last w k) (option_of keep rows)) (option_of to rows) command rest
+    (λ k k_is more. option_and_then_some (last w k) (option_of keep rows) command more
+    (λ e e_is end. mapped_some (λ (d : Option ℕ). run_by w k e d) (option_of deltas rows) command end
+    (λ d d_is made. subst Has made
+    (workers_within rows w w_is, (IfSome_then k (option_ranged to rows k k_is) (λ _ p. p.1), option_ranged keep rows e e_is, option_ranged deltas rows d d_is))))))
 
 trial_has : (command : Command) (rows : List Row) → trial_of rows ≡ Some command → Has command
 trial_has command rows is =

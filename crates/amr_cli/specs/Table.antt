@@ -26,6 +26,10 @@ to = record { name = codes "to"; low = 0; high = 4096 }
 abbrev pub keep : NumberRow
 keep = record { name = codes "keep"; low = 1; high = 4096 }
 
+-- how many records follow each whole state in a store that is created
+abbrev pub deltas : NumberRow
+deltas = record { name = codes "deltas"; low = 1; high = 7 }
+
 -- where a trial's draws begin
 abbrev pub number : NumberRow
 number = record { name = codes "number"; low = 0; high = 4294967295 }
@@ -36,7 +40,7 @@ size = record { name = codes "size"; low = 8; high = 256 }
 
 abbrev pub commands : List CommandRow
 commands =
-    record { name = codes "run"; places = []; options = workers ∷ to ∷ keep ∷ [] }
+    record { name = codes "run"; places = []; options = workers ∷ to ∷ keep ∷ deltas ∷ [] }
     ∷ record { name = codes "check"; places = []; options = [] }
     ∷ record { name = codes "show"; places = []; options = [] }
     ∷ record { name = codes "trial"; places = number ∷ size ∷ []; options = workers ∷ [] }

@@ -4,7 +4,7 @@ use Rattle.std.specs.Prelude.{Some, None, codes, if◌then◌else◌, option_and
 use Rattle.std.specs.List.{list_any}
 use Rattle.std.specs.Str.{bytes_eq}
 use Rattle.clap.specs.Words.{Row, Text, first_of, subcommand_of, fault_of}
-use Rattle.amr_cli.specs.Table.{NumberRow, commands, keep, number, size, to, workers}
+use Rattle.amr_cli.specs.Table.{NumberRow, commands, deltas, keep, number, size, to, workers}
 use Rattle.amr_cli.specs.Program.{program_app}
 use Rattle.amr_cli.specs.Numbers.{number_of, in_range}
 use Rattle.amr_cli.specs.declared.command.Command.{Command}
@@ -47,12 +47,13 @@ abbrev pub workers_of : List Row → Option ℕ
 workers_of rows = option_map or_one (option_of workers rows)
 
 -- a run by its numbers
-abbrev pub run_by : ℕ → Option ℕ → Option ℕ → Command
-run_by w k e = Run record { workers = w; to = k; keep = e }
+abbrev pub run_by : ℕ → Option ℕ → Option ℕ → Option ℕ → Command
+run_by w k e d = Run record { workers = w; to = k; keep = e; deltas = d }
 
 abbrev pub run_of : List Row → Option Command
 run_of rows =
-    option_and_then (λ w. option_and_then (λ k. option_map (λ e. run_by w k e) (option_of keep rows)) (option_of to rows)) (workers_of rows)
+    option_and_then (λ w. option_and_then (λ k. option_and_then (λ e. option_map (λ d. run_by w k e d) (option_of deltas rows)) (option_of keep rows))
+    (option_of to rows)) (workers_of rows)
 
 abbrev pub trial_of : List Row → Option Command
 trial_of rows =
@@ -88,10 +89,11 @@ HasWorkers Show = Unit {0}
 HasWorkers (Trial _ _ w) = (1 ≤ w) × (w ≤ 64)
 HasWorkers (Batch w) = (1 ≤ w) × (w ≤ 64)
 
--- a run stops at a step up to 4096, and from 1 to 4096 steps lie between two checkpoints; a trial is drawn from a number of
--- 32 bits, with from 8 to 256 cells along each axis
+-- a run stops at a step up to 4096, from 1 to 4096 steps lie between two checkpoints, and 1 to 7 records follow each whole state; a trial is drawn
+-- from a number of 32 bits, with from 8 to 256 cells along each axis
 abbrev pub HasRanges : Command → Type 0
-HasRanges (Run options) = IfSome options.to (λ k. k ≤ 4096) × IfSome options.keep (λ e. (1 ≤ e) × (e ≤ 4096))
+HasRanges (Run options) =
+    IfSome options.to (λ k. k ≤ 4096) × IfSome options.keep (λ e. (1 ≤ e) × (e ≤ 4096)) × IfSome options.deltas (λ d. (1 ≤ d) × (d ≤ 7))
 HasRanges Check = Unit {0}
 HasRanges Show = Unit {0}
 HasRanges (Trial n m _) = (n < 2 ^ 32) × (8 ≤ m) × (m ≤ 256)

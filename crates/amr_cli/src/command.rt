@@ -34,4 +34,6 @@ pub struct RunOptions {
     pub to: Option<u32>,
     /// A checkpoint is kept each time that so many steps are made, from 1 to 4096. None: none is kept.
     pub keep: Option<u32>,
+    /// How many records follow each whole state in a store that the run creates, from 1 to 7. None: the store has whole states alone.
+    pub deltas: Option<u32>,
 }

@@ -5,7 +5,7 @@ ghost use Rattle.amr_cli.specs.Rows.{number_row};
 ghost use Rattle.amr_cli.specs.Words.{batch_of, command_from, option_of, place_of, run_of, trial_of, workers_of};
 
 use crate::number::number_between;
-use crate::table::{KEEP, NUMBER, NumberForm, SIZE, TO, WORKERS};
+use crate::table::{DELTAS, KEEP, NUMBER, NumberForm, SIZE, TO, WORKERS};
 use crate::{Command, RunOptions};
 use clap::ArgMatches;
 
@@ -30,7 +30,13 @@ fn run_from(matches: &ArgMatches) -> Option<Command>
     let workers = workers_from(matches)?;
     let to = option_from(matches, &TO)?;
     let keep = option_from(matches, &KEEP)?;
-    Some(Command::Run(RunOptions { workers, to, keep }))
+    let deltas = option_from(matches, &DELTAS)?;
+    Some(Command::Run(RunOptions {
+        workers,
+        to,
+        keep,
+        deltas,
+    }))
 }
 
 fn trial_from(matches: &ArgMatches) -> Option<Command>

@@ -39,6 +39,13 @@ pub(crate) const KEEP: NumberForm = NumberForm {
     high: 4096,
 };
 
+/// How many records follow each whole state in a store that is created.
+pub(crate) const DELTAS: NumberForm = NumberForm {
+    name: "deltas",
+    low: 1,
+    high: 7,
+};
+
 /// Where a trial's draws begin.
 pub(crate) const NUMBER: NumberForm = NumberForm {
     name: "number",
@@ -57,7 +64,7 @@ const COMMANDS: [CommandForm; 5] = [
     CommandForm {
         name: "run",
         places: &[],
-        options: &[WORKERS, TO, KEEP],
+        options: &[WORKERS, TO, KEEP, DELTAS],
     },
     CommandForm {
         name: "check",

@@ -1,13 +1,15 @@
 -- Bytes that are put one after another: those of the entries of a list, and of the numbers of a range.
-use Rattle.std.proofs.Common.{◌≡◌, ℕ, suc, ◌+◌, ◌<◌, ◌≤◌, List, [], ◌∷◌, ◌++◌, length, get_or, take, map, refl, sym, ap, ◌∙◌, append_assoc, append-nil, arith, pos, ◌+ℤ◌}
+use Rattle.std.proofs.Common.{◌≡◌, ℕ, suc, ◌+◌, ◌<◌, ◌≤◌, List, [], ◌∷◌, ◌++◌, length, get_or, take, drop, length-take-le, map, zero, refl, sym, ap, ◌∙◌, append_assoc, append-nil, arith, pos, ◌+ℤ◌}
 use Rattle.std.specs.List.{flat_map, range_with_len}
-use Rattle.std.proofs.lemmas.List.{flat_map_more, take_all}
+use Rattle.std.proofs.lemmas.List.{drop-append-le, flat_map_more, take_all}
 use Rattle.std.proofs.lemmas.Grind.{take_at_read}
 use Rattle.std.proofs.lemmas.List.Concat.{flat_map-append}
 use Rattle.std.proofs.lemmas.List.Folds.{flat_map-map}
 use Rattle.amr_box.specs.declared.Cell.{Cell}
 use Rattle.amr_box.specs.Cells.{Extent, cell, cells_of, height, width}
 use Rattle.amr_box.proofs.Numbers.{range_parts}
+use Rattle.amr_def.specs.State.{Level}
+use Rattle.amr_payload.specs.Payload.{Form, level_bytes, levels_bytes}
 
 -- ---- lists
 
@@ -19,6 +21,46 @@ entry_more f start xs i x d inside is =
 -- all entries
 pub entries_all : {A : Type 0} (f : A → List ℕ) (start : List ℕ) (xs : List A) (i : ℕ) → length xs ≤ i → start ++ flat_map f (take i xs) ≡ start ++ flat_map f xs
 entries_all f start xs i end = ap (λ ys. start ++ flat_map f ys) (take_all i xs end)
+
+-- the same of the entries from one on
+pub later_more : {A : Type 0} (f : A → List ℕ) (start : List ℕ) (first : ℕ) (xs : List A) (i : ℕ) (x d : A) → first ≤ i → i < length xs → x ≡ get_or xs i d
+    → (start ++ flat_map f (drop first (take i xs))) ++ f x ≡ start ++ flat_map f (drop first (take (i + 1) xs))
+later_more f start first xs i x d after inside is =
+    let long : first ≤ length (take i xs) = omega (arith, length-take-le i xs (omega (arith, inside)), after) in
+    flat_map_more f start (drop first (take i xs)) x ∙ ap (λ ys. start ++ flat_map f ys) (sym (drop-append-le first (take i xs) (x ∷ []) long))
+    ∙ ap (λ y. start ++ flat_map f (drop first (take i xs ++ y ∷ []))) is ∙ ap (λ ys. start ++ flat_map f (drop first ys)) (sym (take_at_read xs i d inside).1)
+
+pub later_all : {A : Type 0} (f : A → List ℕ) (start : List ℕ) (first : ℕ) (xs : List A) (i : ℕ) → length xs ≤ i → start ++ flat_map f (drop first (take i xs)) ≡ start ++ flat_map f (drop first xs)
+later_all f start first xs i end = ap (λ ys. start ++ flat_map f (drop first ys)) (take_all i xs end)
+
+pub none_later : {A : Type 0} (f : A → List ℕ) (start : List ℕ) (first : ℕ) (xs : List A) → start ≡ start ++ flat_map f (drop first (take first xs))
+none_later f start first xs = sym (append-nil start) ∙ ap (λ ys. start ++ flat_map f ys) (sym (no_later first xs))
+  where
+    no_later : {A : Type 0} (n : ℕ) (xs : List A) → drop n (take n xs) ≡ []
+    no_later zero xs = refl
+    no_later (suc n) [] = refl
+    no_later (suc n) (x ∷ xs) = no_later n xs
+
+-- one more level, and all levels
+levels_joined : (fs : ℕ → Form) (l : ℕ) (ks es : List Level) → levels_bytes fs l (ks ++ es) ≡ levels_bytes fs l ks ++ levels_bytes fs (l + length ks) es
+levels_joined fs l [] es = let same : l ≡ l + 0 = omega arith in ap (λ n. levels_bytes fs n es) same
+levels_joined fs l (k ∷ ks) es =
+    let same : suc l + length ks ≡ l + suc (length ks) = omega arith in
+    ap (λ (bs : List ℕ). level_bytes (fs l) k ++ bs) (levels_joined fs (suc l) ks es ∙ ap (λ n. levels_bytes fs (suc l) ks ++ levels_bytes fs n es) same)
+    ∙ sym (append_assoc (level_bytes (fs l) k) (levels_bytes fs (suc l) ks) (levels_bytes fs (l + suc (length ks)) es))
+
+pub level_more : (fs : ℕ → Form) (start : List ℕ) (ks : List Level) (i : ℕ) (k d : Level) → i < length ks → k ≡ get_or ks i d
+    → (start ++ levels_bytes fs 0 (take i ks)) ++ level_bytes (fs i) k ≡ start ++ levels_bytes fs 0 (take (i + 1) ks)
+level_more fs start ks i k d inside is =
+    let before : 0 + length (take i ks) ≡ i = omega (arith, length-take-le i ks (omega (arith, inside))) in
+    append_assoc start (levels_bytes fs 0 (take i ks)) (level_bytes (fs i) k)
+    ∙ ap (λ (bs : List ℕ). start ++ (levels_bytes fs 0 (take i ks) ++ bs)) (sym (append-nil (level_bytes (fs i) k)) ∙ ap (λ n. levels_bytes fs n (k ∷ [])) (sym before))
+    ∙ ap (λ (bs : List ℕ). start ++ bs) (sym (levels_joined fs 0 (take i ks) (k ∷ [])))
+    ∙ ap (λ (e : Level). start ++ levels_bytes fs 0 (take i ks ++ e ∷ [])) is
+    ∙ ap (λ (es : List Level). start ++ levels_bytes fs 0 es) (sym (take_at_read ks i d inside).1)
+
+pub levels_all : (fs : ℕ → Form) (start : List ℕ) (ks : List Level) (i : ℕ) → length ks ≤ i → start ++ levels_bytes fs 0 (take i ks) ≡ start ++ levels_bytes fs 0 ks
+levels_all fs start ks i end = ap (λ (es : List Level). start ++ levels_bytes fs 0 es) (take_all i ks end)
 
 -- one list and then another
 pub put_twice : (a b c x y : List ℕ) → b ≡ a ++ x → c ≡ b ++ y → c ≡ a ++ (x ++ y)

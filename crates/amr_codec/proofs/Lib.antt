@@ -1,2 +1,3 @@
 mod Appending
 mod Domains
+pub mod KeptRows

@@ -28,11 +28,21 @@ pub(crate) fn put_u32(n: u32, out: &mut Vec<u8>) -> Result<(), NoMemory>
     Ok(())
 }
 
+/// Appends a number of eight bytes.
 #[tactic(auto, unfolding(amr_payload::specs::Payload::number_bytes))]
-fn put_u64(n: u64, out: &mut Vec<u8>) -> Result<(), NoMemory>
+pub fn put_u64(n: u64, out: &mut Vec<u8>) -> Result<(), NoMemory>
     ensures { OnOk result (out.new.items ≡ out.old.items ++ number_bytes w64 n) }
 {
     out.extend_from_slice(&n.to_le_bytes())?;
+    Ok(())
+}
+
+/// A number of one byte.
+#[tactic(auto, unfolding(amr_payload::specs::Payload::number_bytes))]
+pub(crate) fn put_flag(flag: u8, out: &mut Vec<u8>) -> Result<(), NoMemory>
+    ensures { OnOk result (out.new.items ≡ out.old.items ++ number_bytes w8 flag) }
+{
+    out.push(flag)?;
     Ok(())
 }
 

@@ -1,8 +1,8 @@
 //! The masses of a box, row by row. A row is read span by span, with one look-up a span.
 
-ghost use Rattle.std.specs.Prelude.{◌≡◌, ℕ, ◌+◌, ◌<◌, ◌≤◌, ◌≤ℤ◌, ◌++◌, length, slice_index, IsTrue, OnOk, pos, ◌+ℤ◌};
+ghost use Rattle.std.specs.Prelude.{◌≡◌, ◌≤ℤ◌, ◌++◌, OnOk, pos, ◌+ℤ◌};
 ghost use Rattle.std.specs.List.{flat_map, range_with_len};
-ghost use Rattle.amr_box.specs.Cells.{IsNear, cell, cells_of, holds, width};
+ghost use Rattle.amr_box.specs.Cells.{IsNear, cells_of, width};
 ghost use Rattle.amr_def.specs.State.{mass_of};
 ghost use Rattle.amr_patch.specs.Levels.{level_of};
 ghost use Rattle.amr_payload.specs.Payload.{number_bytes};
@@ -15,7 +15,7 @@ use amr_causes::NoMemory;
 use amr_patch::{Level, masses_from};
 
 /// A row of the box, from the low column on.
-fn put_row(
+pub(crate) fn put_row(
     mass_width: MassWidth,
     level: &Level,
     b: &Bx,

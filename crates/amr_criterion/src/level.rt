@@ -6,47 +6,45 @@ ghost use Rattle.std.specs.Option.{option_copied};
 ghost use Rattle.amr_box.specs.declared.Cell.{Cell};
 ghost use Rattle.amr_def.specs.Domain.{domain, domain_box};
 ghost use Rattle.amr_def.specs.Facts.{IsLevel};
+ghost use Rattle.amr_def.specs.State.{Masses};
 ghost use Rattle.amr_def.specs.Tags.{is_tagged_by};
-ghost use Rattle.amr_patch.specs.Gaps.{HasStarts};
+ghost use Rattle.amr_ghost.specs.Fills.{AreSourcesOf, FillsFrames};
 ghost use Rattle.amr_ghost.specs.Frames.{HasGhostMarks, HasGhostValues, old_masses};
 ghost use Rattle.amr_patch.specs.Levels.{level_of, patches_of};
 ghost use Rattle.amr_patch.specs.Patches.{SameFluxes, box};
-ghost use Rattle.amr_tags.specs.TagSets.{has};
+ghost use Rattle.amr_tags.specs.TagSets.{SameShape, has};
 ghost use Rattle.amr_criterion.specs.Pairs.{IsJoined};
 
 use crate::patches::tag_patches;
 use amr_causes::NoMemory;
-use amr_def::{Dom, Problem};
-use amr_ghost::fill_in_order;
+use amr_def::Problem;
+use amr_ghost::{FrameSources, fill, find_sources};
 use amr_nest::domain_box;
-use amr_patch::{Level, Starts, starts_of};
+use amr_patch::{Level, starts_of};
 use amr_tags::Tags;
 use std::alloc::Global;
 
 /// Tags the cells of a level that are to be refined, and fills the frames of its patches.
-fn tag_level(
-    tags: &mut Tags,
-    p: &Problem,
-    l: u32,
-    level: &mut Level,
-    starts: &Starts,
-    coarse: Option<&Level>,
-)
+fn tag_level(tags: &mut Tags, p: &Problem, l: u32, level: &mut Level, sources: &FrameSources)
     requires below { l < p.now.max_level }
     requires of_domain { IsLevel p.now l (level_of level.old) }
-    requires starts { HasStarts (patches_of level.old) starts.now }
-    ensures tags { IsJoined (is_tagged_by p.now l (level_of level.old).masses (old_masses (option_copied coarse.entry))) tags.old tags.new }
+    requires sources { AreSourcesOf (patches_of level.old) sources.now }
+    ensures shape { SameShape tags.old tags.new }
+    ensures tags { (old : Masses) → FillsFrames p.now l old (patches_of level.old) sources.now
+        → IsJoined (is_tagged_by p.now l (level_of level.old).masses old) tags.old tags.new }
     ensures level { level_of level.new ≡ level_of level.old }
     ensures patches { map box (patches_of level.new) ≡ map box (patches_of level.old) }
     ensures fluxes { AllZip SameFluxes (patches_of level.old) (patches_of level.new) }
-    ensures frames { All (HasGhostValues p.now l (level_of level.old).masses (old_masses (option_copied coarse.entry))) (patches_of level.new) }
-    ensures marks { All (HasGhostMarks p.now l (level_of level.old).masses) (patches_of level.new) }
+    ensures frames { (old : Masses) → FillsFrames p.now l old (patches_of level.old) sources.now
+        → All (HasGhostValues p.now l (level_of level.old).masses old) (patches_of level.new) }
+    ensures marks { (old : Masses) → FillsFrames p.now l old (patches_of level.old) sources.now
+        → All (HasGhostMarks p.now l (level_of level.old).masses) (patches_of level.new) }
 {
     let dom = p.domain(l);
     let threshold = p.tag.entries()[l as usize];
     let order = level.order();
     let mut patches = level.take_patches();
-    fill_in_order(p, l, &mut patches, order, Some(starts), coarse);
+    fill(&mut patches, sources);
     tag_patches(tags, &patches, &dom, threshold);
     level.put_patches_in_order(patches, order);
 }
@@ -81,6 +79,7 @@ pub fn tags(
     let dom = p.domain(l);
     let mut tags = Tags::make(alloc, domain_box(&dom), dom.wrap_x, dom.wrap_y)?;
     let starts = starts_of(alloc, level.patches())?;
-    tag_level(&mut tags, p, l, level, &starts, coarse);
+    let sources = find_sources(alloc, p, l, level.patches(), level.order(), &starts, coarse)?;
+    tag_level(&mut tags, p, l, level, &sources);
     Ok(tags)
 }

@@ -1,15 +1,15 @@
 -- What is kept serves levels with the same boxes.
-use Rattle.std.proofs.Common.{◌≡◌, ◌∙◌, ◌⊎◌, inl, inr, ℕ, zero, suc, ◌+◌, ◌<◌, ℤ, List, ◌∷◌, get_or, length, map, set, refl, sym, ap, subst, arith}
+use Rattle.std.proofs.Common.{◌≡◌, ◌∙◌, ◌⊎◌, inl, inr, ℕ, zero, suc, ◌+◌, ◌<◌, ◌≤◌, ℤ, Bool, true, false, not, List, [], ◌∷◌, ◌++◌, get_or, length, length-append, map, set, refl, sym, ap, subst, arith}
 use Rattle.std.specs.Prelude.{is_some, IfSome}
 use Rattle.std.specs.declared.option.Option.{Option}
 use Rattle.std.specs.declared.option.Option.TheVariants.{None, Some}
 use Rattle.std.specs.Global.{Vec}
-use Rattle.std.proofs.lemmas.Bool.{cases_eq}
-use Rattle.std.proofs.lemmas.List.{get_or-set_other, get_or-set_same, length-set}
+use Rattle.std.proofs.lemmas.Bool.{cases_eq, cases_lt}
+use Rattle.std.proofs.lemmas.List.{get_or-set_other, get_or-set_same, get_or_append_left, get_or_push, length-set}
 use Rattle.amr_box.specs.declared.Cell.{Cell}
 use Rattle.amr_box.specs.Cells.{Extent, in_boxes}
 use Rattle.amr_def.specs.declared.problem.Problem.{Problem}
-use Rattle.amr_def.specs.State.{Level, Masses}
+use Rattle.amr_def.specs.State.{Level, Masses, no_level, no_masses}
 use Rattle.amr_patch.specs.declared.levels.Level.{Level as Held}
 use Rattle.amr_patch.specs.declared.patches.Patch.{Patch}
 use Rattle.amr_patch.specs.Levels.{level_of, patches_of}
@@ -21,8 +21,9 @@ use Rattle.amr_register.proofs.SameCells.{edges_kept, register_kept, same_regist
 use Rattle.amr_cycle.specs.declared.kept.KeptBelow.{KeptBelow}
 use Rattle.amr_cycle.specs.declared.kept.KeptLevel.{KeptLevel}
 use Rattle.amr_cycle.specs.Cycles.{SomeHasEntries}
-use Rattle.amr_advance.specs.Kept.{IsCurrentLayout, IsValued}
-use Rattle.amr_cycle.specs.Kept.{AreCurrent, AreKept, IsBelow, IsKeptBelow, IsKeptLevel, IsOnSameBoxes}
+use Rattle.amr_advance.specs.declared.kept.KeptLayout.{KeptLayout}
+use Rattle.amr_advance.specs.Kept.{Forgets}
+use Rattle.amr_cycle.specs.Kept.{AreKept, IsBelow, IsKeptBelow, IsKeptBeside, IsKeptLevel, IsOnSameBoxes}
 use Rattle.amr_cycle.proofs.Cycling.{same_level}
 
 -- the cells of a level are those of its patches' boxes
@@ -45,23 +46,71 @@ renewed p l b b' level next kept on masses boxes finer patches register = record
 
 -- ---- lists
 
-pub kept_first : (p : Problem) (l : ℕ) (k : KeptLevel) (ks ls : List KeptLevel) → ls ≡ k ∷ ks → AreKept p l ls → IsKeptLevel p l k
-kept_first p l k ks ls is h = subst (λ n. IsKeptLevel p n k) (let e : l + 0 ≡ l = omega arith in e) (subst (AreKept p l) is h 0 k (omega arith))
+-- the masses of the level at a place, none where there is no level
+abbrev masses_at : List Level → ℕ → Masses
+masses_at levels n = (get_or levels n no_level).masses
 
-pub kept_rest : (p : Problem) (l : ℕ) (k : KeptLevel) (ks ls : List KeptLevel) → ls ≡ k ∷ ks → AreKept p l ls → AreKept p (l + 1) ks
-kept_rest p l k ks ls is h n d lt = subst (λ i. IsKeptLevel p i (get_or ks n d)) (let e : l + suc n ≡ l + 1 + n = omega arith in e) (subst (AreKept p l) is h (suc n) d (omega (arith, lt)))
+pub kept_first : (p : Problem) (l : ℕ) (j : Level) (js : List Level) (k : KeptLevel) (ks ls : List KeptLevel) → ls ≡ k ∷ ks → AreKept p l (j ∷ js) ls → IsKeptLevel p l j.masses k
+kept_first p l j js k ks ls is h = subst (λ n. IsKeptLevel p n j.masses k) (let e : l + 0 ≡ l = omega arith in e) (subst (AreKept p l (j ∷ js)) is h 0 k (omega arith))
 
-pub kept_all : (p : Problem) (l : ℕ) (k : KeptLevel) (ks : List KeptLevel) → IsKeptLevel p l k → AreKept p (l + 1) ks → AreKept p l (k ∷ ks)
-kept_all p l k ks first rest zero d lt = subst (λ n. IsKeptLevel p n k) (let e : l ≡ l + 0 = omega arith in e) first
-kept_all p l k ks first rest (suc n) d lt = subst (λ i. IsKeptLevel p i (get_or ks n d)) (let e : l + 1 + n ≡ l + suc n = omega arith in e) (rest n d (omega (arith, lt)))
+pub kept_rest : (p : Problem) (l : ℕ) (j : Level) (js : List Level) (k : KeptLevel) (ks ls : List KeptLevel) → ls ≡ k ∷ ks → AreKept p l (j ∷ js) ls → AreKept p (l + 1) js ks
+kept_rest p l j js k ks ls is h n d lt =
+    subst (λ i. IsKeptLevel p i (masses_at js n) (get_or ks n d)) (let e : l + suc n ≡ l + 1 + n = omega arith in e) (subst (AreKept p l (j ∷ js)) is h (suc n) d (omega (arith, lt)))
 
--- one of them changed
-pub kept_set : (p : Problem) (l i : ℕ) (x : KeptLevel) (ks : List KeptLevel) → i < length ks → IsKeptLevel p (l + i) x → AreKept p l ks → AreKept p l (set ks i x)
-kept_set p l i x ks inside here h n d lt = from (cases_eq n i)
+pub kept_all : (p : Problem) (l : ℕ) (j : Level) (js : List Level) (k : KeptLevel) (ks : List KeptLevel) → IsKeptLevel p l j.masses k → AreKept p (l + 1) js ks → AreKept p l (j ∷ js) (k ∷ ks)
+kept_all p l j js k ks first rest zero d lt = subst (λ n. IsKeptLevel p n j.masses k) (let e : l ≡ l + 0 = omega arith in e) first
+kept_all p l j js k ks first rest (suc n) d lt = subst (λ i. IsKeptLevel p i (masses_at js n) (get_or ks n d)) (let e : l + 1 + n ≡ l + suc n = omega arith in e) (rest n d (omega (arith, lt)))
+
+-- one more, of which nothing is kept
+pub kept_more : (p : Problem) (l : ℕ) (levels : List Level) (ks : List KeptLevel) → AreKept p l levels ks → AreKept p l levels (ks ++ record { layout = None; below = None } ∷ [])
+kept_more p l levels ks h n d lt = from (cases_lt n (length ks))
   where
-    from : ((n ≡ i) ⊎ (n ≡ i → ⊥)) → IsKeptLevel p (l + n) (get_or (set ks i x) n d)
-    from (inl same) = subst (λ m. IsKeptLevel p (l + m) (get_or (set ks i x) m d)) (sym same) (subst (IsKeptLevel p (l + i)) (sym (get_or-set_same ks i x d inside)) here)
-    from (inr other) = subst (IsKeptLevel p (l + n)) (sym (get_or-set_other ks i n x d other)) (h n d (omega (arith, lt, length-set ks i x)))
+    new : KeptLevel
+    new = record { layout = None; below = None }
+
+    from : ((n < length ks) ⊎ (length ks ≤ n)) → IsKeptLevel p (l + n) (masses_at levels n) (get_or (ks ++ new ∷ []) n d)
+    from (inl before) = subst (IsKeptLevel p (l + n) (masses_at levels n)) (sym (get_or_append_left ks (new ∷ []) d n before)) (h n d before)
+    from (inr last) = subst (IsKeptLevel p (l + n) (masses_at levels n)) (sym (get_or_push ks new d n (omega (arith, lt, last, length-append ks (new ∷ []))))) (no_masses, record { layout = tt; below = tt })
+
+-- ---- masses that are forgotten
+
+-- a level that makes its step keeps what it may, and where the step is made again what it keeps beside the same masses of the coarser level
+pub kept_again : (p : Problem) (l : ℕ) (own old : Masses) (again : Bool) (k : KeptLevel) (o : Option KeptLayout) → Forgets (record { own = false; coarser = not again }) k.layout o
+    → (again ≡ true → IsKeptBeside p l own old k) → IsKeptLevel p l own k → IsKeptBeside p l own old (record k { layout = o })
+kept_again p l own old true k o forgets beside (_, h) = record { layout = forgets p l own old own old (λ e. refl) (λ e. refl) (beside refl).layout; below = h.below }
+kept_again p l own old false k o forgets beside (before, h) = record { layout = forgets p l own before own old (λ e. refl) (λ e. cc) h.layout; below = h.below }
+
+-- of the levels at places below k the masses are forgotten, so that what they keep is of any; the others are as they were
+pub record HaveForgotten (before ks : List KeptLevel) (k : ℕ) : Type 0 where
+  pub done : (p : Problem) (levels now : List Level) → AreKept p 0 levels before → (n : ℕ) (d : KeptLevel) → n < k → n < length ks → IsKeptLevel p (0 + n) (masses_at now n) (get_or ks n d)
+  pub others : (n : ℕ) (d : KeptLevel) → k ≤ n → get_or ks n d ≡ get_or before n d
+  pub count : length ks ≡ length before
+
+-- one more has
+pub one_more_forgot : (before ks : List KeptLevel) (k : ℕ) (x : KeptLevel) (o : Option KeptLayout) → k < length ks → x ≡ get_or ks k x → Forgets (record { own = true; coarser = false }) x.layout o
+    → HaveForgotten before ks k → HaveForgotten before (set ks k (record x { layout = o })) (k + 1)
+one_more_forgot before ks k x o inside is forgets h = record { done = done; others = others; count = length-set ks k y ∙ h.count }
+  where
+    y : KeptLevel
+    y = record x { layout = o }
+
+    was : x ≡ get_or before k x
+    was = is ∙ h.others k x (omega arith)
+
+    here : (p : Problem) (levels : List Level) (own : Masses) → AreKept p 0 levels before → IsKeptLevel p (0 + k) own y
+    here p levels own kept =
+        let at = subst (IsKeptLevel p (0 + k) (masses_at levels k)) (sym was) (kept k x (omega (arith, inside, h.count))) in
+        (at.0, record { layout = forgets p (0 + k) (masses_at levels k) at.0 own at.0 (λ e. cc) (λ e. refl) at.1.layout; below = at.1.below })
+
+    done : (p : Problem) (levels now : List Level) → AreKept p 0 levels before → (n : ℕ) (d : KeptLevel) → n < k + 1 → n < length (set ks k y) → IsKeptLevel p (0 + n) (masses_at now n) (get_or (set ks k y) n d)
+    done p levels now kept n d below lt = from (cases_eq n k)
+      where
+        from : ((n ≡ k) ⊎ (n ≡ k → ⊥)) → IsKeptLevel p (0 + n) (masses_at now n) (get_or (set ks k y) n d)
+        from (inl same) = subst (λ m. IsKeptLevel p (0 + m) (masses_at now m) (get_or (set ks k y) m d)) (sym same) (subst (IsKeptLevel p (0 + k) (masses_at now k)) (sym (get_or-set_same ks k y d inside)) (here p levels (masses_at now k) kept))
+        from (inr other) = subst (IsKeptLevel p (0 + n) (masses_at now n)) (sym (get_or-set_other ks k n y d other)) (h.done p levels now kept n d (omega arith) (omega (arith, lt, length-set ks k y)))
+
+    others : (n : ℕ) (d : KeptLevel) → k + 1 ≤ n → get_or (set ks k y) n d ≡ get_or before n d
+    others n d le = get_or-set_other ks k n y d (omega arith) ∙ h.others n d (omega arith)
 
 -- ---- what is left when both finer steps are made
 
@@ -78,20 +127,3 @@ all_below_after p l k fine e (Some b) before finer r is cells same has edges = r
     edges = subst (λ (h : Held). HasEdgesOf (map box (patches_of h)) b.register) (sym same.0) (subst (λ (s : Option Register). IfSome s (HasEdgesOf (map box (patches_of before)))) (sym same.2) edges);
   };
 }
-
--- ---- what is kept of masses
-
-pub current_first : (k : Level) (levels : List Level) (d : KeptLevel) (ds ls : List KeptLevel) → ls ≡ d ∷ ds → AreCurrent (k ∷ levels) ls → IfSome d.layout (IsCurrentLayout k.masses)
-current_first k levels d ds ls is h = subst (AreCurrent (k ∷ levels)) is h 0 k d (omega arith) (omega arith)
-
-pub current_rest : (k : Level) (levels : List Level) (d : KeptLevel) (ds ls : List KeptLevel) → ls ≡ d ∷ ds → AreCurrent (k ∷ levels) ls → AreCurrent levels ds
-current_rest k levels d ds ls is h n j e within lt = subst (AreCurrent (k ∷ levels)) is h (suc n) j e (omega (arith, within)) (omega (arith, lt))
-
-pub current_all : (k : Level) (levels : List Level) (d : KeptLevel) (ds : List KeptLevel) → IfSome d.layout (IsCurrentLayout k.masses) → AreCurrent levels ds → AreCurrent (k ∷ levels) (d ∷ ds)
-current_all k levels d ds first rest zero j e within lt = first
-current_all k levels d ds first rest (suc n) j e within lt = rest n j e (omega (arith, within)) (omega (arith, lt))
-
--- ---- what is kept of the next coarser level's masses
-
-pub valued_first : (p : Problem) (l : ℕ) (old : Masses) (d : KeptLevel) (ds ls : List KeptLevel) → ls ≡ d ∷ ds → ((e : KeptLevel) → IfSome (get_or ls 0 e).layout (IsValued p l old)) → IfSome d.layout (IsValued p l old)
-valued_first p l old d ds ls is h = subst (λ (ks : List KeptLevel). IfSome (get_or ks 0 d).layout (IsValued p l old)) is (h d)

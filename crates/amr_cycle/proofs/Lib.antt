@@ -6,3 +6,4 @@ pub mod Coarsenable
 pub mod Whole
 pub mod Chopped
 pub mod KeptLaws
+mod ReadyLevels

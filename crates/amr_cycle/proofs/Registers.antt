@@ -1,5 +1,5 @@
 -- The register over a level, from its own step on through both finer ones.
-use Rattle.std.proofs.Common.{◌≡◌, ℕ, suc, ◌^◌, ◌<◌, ◌≤◌, ℤ, pos, ◌+ℤ◌, neg_ℤ, List, sym, ap, subst, ◌∙◌, arith}
+use Rattle.std.proofs.Common.{◌≡◌, ℕ, suc, ◌^◌, ◌<◌, ◌≤◌, ℤ, pos, ◌+ℤ◌, neg_ℤ, List, refl, sym, ap, subst, ◌∙◌, arith}
 use Rattle.std.specs.Prelude.{unsigned_abs, IfSome}
 use Rattle.std.specs.declared.option.Option.{Option}
 use Rattle.std.specs.declared.option.Option.TheVariants.{None, Some}
@@ -49,6 +49,11 @@ edges_stay boxes by None None change h = tt
 edges_stay boxes by None (Some s) change h = absurd change
 edges_stay boxes by (Some r) None change h = absurd change
 edges_stay boxes by (Some r) (Some s) change h = edges_kept boxes r s change.cells h
+
+-- where there is none there is none afterwards
+pub none_stays : (by : Cell → ℤ) (r s : Option Register) → r ≡ None → BothChange by r s → s ≡ None
+none_stays by r None is h = refl
+none_stays by r (Some s) is h = absurd (subst (λ (o : Option Register). BothChange by o (Some s)) is h)
 
 -- with entries that are small it serves a step of the finer level
 pub serves : (p : Problem) (l : ℕ) (k fine after : Level) (before : Held) (e : Cell → ℤ) (r : Option Register) → level_of before ≡ k → IsLevel p l k → IsNestedLevel p l k after → CoverAlike fine.masses after.masses

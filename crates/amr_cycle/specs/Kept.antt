@@ -3,12 +3,12 @@ use Rattle.std.specs.Prelude.{◌≡◌, ℕ, ◌+◌, ◌<◌, List, length, ma
 use Rattle.amr_box.specs.declared.Cell.{Cell}
 use Rattle.amr_box.specs.Cells.{in_boxes}
 use Rattle.amr_def.specs.declared.problem.Problem.{Problem}
-use Rattle.amr_def.specs.State.{Level}
+use Rattle.amr_def.specs.State.{Level, Masses, no_level}
 use Rattle.amr_patch.specs.declared.levels.Level.{Level as Held}
 use Rattle.amr_patch.specs.Levels.{level_of, patches_of}
 use Rattle.amr_patch.specs.Patches.{box}
 use Rattle.amr_register.specs.Registers.{HasEdgesOf, IsRegisterOf}
-use Rattle.amr_advance.specs.Kept.{IsCurrentLayout, IsKeptLayout}
+use Rattle.amr_advance.specs.Kept.{IsKeptOf}
 use Rattle.amr_cycle.specs.declared.kept.Kept.{Kept}
 use Rattle.amr_cycle.specs.declared.kept.KeptBelow.{KeptBelow}
 use Rattle.amr_cycle.specs.declared.kept.KeptLevel.{KeptLevel}
@@ -37,24 +37,20 @@ pub record IsOnSameBoxes (b : KeptBelow) (level next : Held) : Type 0 where
   pub before : HasBoxesOf b.before level
   pub finer : (c : Cell) → is_some ((level_of next).masses c) ≡ in_boxes b.finer.items c
 
-pub record IsKeptLevel (p : Problem) (l : ℕ) (k : KeptLevel) : Type 0 where
-  pub layout : IfSome k.layout (IsKeptLayout p)
+-- What a level keeps is of this problem. What it keeps of masses, where it keeps any, is of these: `own` its own ones, `old` those of the next
+-- coarser level.
+pub record IsKeptBeside (p : Problem) (l : ℕ) (own old : Masses) (k : KeptLevel) : Type 0 where
+  pub layout : IfSome k.layout (IsKeptOf p l own old)
   pub below : IfSome k.below (IsKeptBelow p l)
 
--- of the levels from l on
-abbrev pub AreKept : Problem → ℕ → List KeptLevel → Type 0
-AreKept p l ks = (k : ℕ) (d : KeptLevel) → k < length ks → IsKeptLevel p (l + k) (slice_index_or ks k d)
+-- the same beside some masses of the next coarser level: another step may have changed them since
+abbrev pub IsKeptLevel : Problem → ℕ → Masses → KeptLevel → Type 0
+IsKeptLevel p l own k = (old : Masses) × IsKeptBeside p l own old k
 
--- what a run keeps is of this problem
-pub record IsKeptFor (p : Problem) (k : Kept) : Type 0 where
-  pub levels : IfSome k.levels (λ ks. AreKept p 0 ks.items)
+-- that of the levels from l on is of these ones, where there are more of no masses
+abbrev pub AreKept : Problem → ℕ → List Level → List KeptLevel → Type 0
+AreKept p l levels ks = (k : ℕ) (d : KeptLevel) → k < length ks → IsKeptLevel p (l + k) (slice_index_or levels k no_level).masses (slice_index_or ks k d)
 
--- what levels keep of their masses, where they keep any, is of these levels
-abbrev pub AreCurrent : List Level → List KeptLevel → Type 0
-AreCurrent levels ks =
-    (k : ℕ) (level : Level) (d : KeptLevel) → k < length levels → k < length ks
-    → IfSome (slice_index_or ks k d).layout (IsCurrentLayout (slice_index_or levels k level).masses)
-
--- what a run keeps of masses is of these levels
-abbrev pub IsCurrent : List Level → Kept → Type 0
-IsCurrent levels k = IfSome k.levels (λ ks. AreCurrent levels ks.items)
+-- what a run keeps is of this problem and of these levels
+pub record IsKeptFor (p : Problem) (levels : List Level) (k : Kept) : Type 0 where
+  pub levels_kept : IfSome k.levels (λ ks. AreKept p 0 levels ks.items)

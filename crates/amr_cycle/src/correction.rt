@@ -4,12 +4,12 @@ ghost use Rattle.std.specs.Prelude.{◌≡◌, ℕ, ◌^◌, ◌<◌, pos, ◌+�
 ghost use Rattle.std.specs.List.{Contains};
 ghost use Rattle.amr_box.specs.declared.Cell.{Cell};
 ghost use Rattle.amr_box.specs.Cells.{parent};
-ghost use Rattle.amr_def.specs.State.{Masses, children_mass, mass_of};
+ghost use Rattle.amr_def.specs.State.{children_mass, mass_of};
 ghost use Rattle.amr_patch.specs.Levels.{level_of, patches_of};
 ghost use Rattle.amr_patch.specs.Patches.{box};
 ghost use Rattle.amr_register.specs.Entries.{with_entries};
 ghost use Rattle.amr_register.specs.Registers.{HasEdgesOf, IsPlaced};
-ghost use Rattle.amr_advance.specs.Kept.{IsCurrentLayout, IsKeptLayout, IsValued};
+ghost use Rattle.amr_advance.specs.Kept.{IsKeptLayout, StaysKept};
 ghost use Rattle.amr_advance.specs.Registers.{cells_of};
 ghost use Rattle.amr_advance.specs.Crews.{MayRun};
 ghost use Rattle.amr_cycle.specs.Cycles.{entries_of};
@@ -55,9 +55,7 @@ pub(crate) fn correct<R: Threads + Wait + Sync, G: Gate + Sync>(
     ensures patches { OnOk result (map box (patches_of level.new) ≡ map box (patches_of level.old)) }
     ensures finer { OnOk result (level_of finer.new ≡ level_of finer.old) }
     ensures finer_patches { OnOk result (patches_of finer.new ≡ patches_of finer.old) }
-    ensures kept { OnOk result (IfSome kept.new (IsKeptLayout p.now)) }
-    ensures current { OnOk result (IfSome kept.new (IsCurrentLayout (level_of level.new).masses)) }
-    ensures valued { OnOk result ((l : ℕ) (old : Masses) → IfSome kept.old (IsValued p.now l old) → IfSome kept.new (IsValued p.now l old)) }
+    ensures kept { OnOk result (StaysKept (λ own. (level_of level.new).masses) kept.old kept.new) }
 {
     let Some(whole) = register.take() else {
         unreachable!()

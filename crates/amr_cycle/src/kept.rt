@@ -1,19 +1,20 @@
 //! What the steps of levels keep from one to the next, until boxes change.
 
-ghost use Rattle.std.specs.Prelude.{◌≡◌, ◌≤◌, ℕ, suc, pos, true, List, IfOk, IfSome, IsTrue, None, length, map};
+ghost use Rattle.std.specs.Prelude.{◌≡◌, ◌≤◌, ℕ, suc, pos, List, IfOk, IfSome, IsTrue, length, map};
 ghost use Rattle.amr_box.specs.declared.Cell.{Cell};
 ghost use Rattle.amr_def.specs.declared.problem.Problem.{Problem};
 ghost use Rattle.amr_def.specs.Facts.{IsLevel, IsNestedLevel};
-ghost use Rattle.amr_def.specs.State.{Level as StateLevel, Masses};
+ghost use Rattle.amr_def.specs.State.{Level as StateLevel};
 ghost use Rattle.amr_patch.specs.Levels.{level_of, patches_of};
 ghost use Rattle.amr_patch.specs.Patches.{box};
 ghost use Rattle.amr_register.specs.Registers.{SameCells, entry_in};
-ghost use Rattle.amr_advance.specs.Kept.{IsCurrentLayout, IsKeptLayout, IsValued};
+ghost use Rattle.amr_advance.specs.Kept.{IsKeptLayout, StaysKept};
 ghost use Rattle.amr_advance.specs.Crews.{MayRun};
-ghost use Rattle.amr_cycle.specs.Kept.{AreCurrent, AreKept, HasBoxesOf, IsBelow, IsCurrent, IsKeptFor, IsKeptLevel, IsOnSameBoxes};
+ghost use Rattle.amr_cycle.specs.Kept.{AreKept, HasBoxesOf, IsBelow, IsKeptFor, IsOnSameBoxes};
+ghost use Rattle.amr_cycle.specs.Steps.{IsKeptIn};
 
-use crate::given::Given;
-use amr_advance::{KeptLayout, Workers, keep_masses};
+use crate::context::LevelContext;
+use amr_advance::{KeptLayout, Stale, Workers, forget, keep_masses};
 use amr_alike::{are_same, boxes_of, copy_masses, have_boxes, have_same_boxes};
 use amr_box::Bx;
 use amr_causes::NoMemory;
@@ -43,67 +44,41 @@ pub(crate) struct KeptLevel {
 
 /// What the steps of a run keep from one to the next: layouts, workspaces, flux registers, and room for the masses before a step.
 /// All of it depends on boxes alone, and what no longer fits them is made anew. The one exception are masses that were packed for the
-/// next step: who changes masses between two steps says so by [`Kept::masses_changed`].
+/// next step: who changes masses between two steps has these forgotten by [`Kept::forget_masses`].
 #[derive(Drop)]
 pub struct Kept {
     pub(crate) levels: Option<Vec<KeptLevel>>,
 }
 
 impl Kept {
-    /// Nothing yet, of any problem.
+    /// Nothing yet, of any problem and levels.
     pub const fn nothing() -> Kept
-        ensures kept { (p : Problem) → IsKeptFor p result }
-        ensures current { (levels : List StateLevel) → IsCurrent levels result }
+        ensures { (p : Problem) (levels : List StateLevel) → IsKeptFor p levels result }
     {
         Kept { levels: None }
     }
 
-    /// Tells that masses changed otherwise than by a step, as by a regrid. What is kept of them is worked out anew at the next step.
-    pub fn masses_changed(&mut self)
-        ensures kept { (p : Problem) → IsKeptFor p self.old → IsKeptFor p self.new }
-        ensures current { (levels : List StateLevel) → IsCurrent levels self.new }
+    /// Forgets what is kept of masses, since they changed otherwise than by a step, as by a regrid: it is kept of whatever levels came in
+    /// their place. It is worked out anew at the next step.
+    pub fn forget_masses(&mut self)
+        ensures { (p : Problem) (before now : List StateLevel) → IsKeptFor p before self.old → IsKeptFor p now self.new }
     {
         if let Some(levels) = &mut self.levels {
-            forget_masses(levels);
+            forget_all(levels);
         }
     }
 }
 
-/// Tells what is kept of a level that its masses changed otherwise than by its step.
-pub(crate) fn forget_masses_of(kept: &mut KeptLevel)
-    ensures kept { (p : Problem) (l : ℕ) → IsKeptLevel p l kept.old → IsKeptLevel p l kept.new }
-    ensures current { (M : Masses) → IfSome kept.new.layout (IsCurrentLayout M) }
-    ensures valued { (p : Problem) (l : ℕ) (old : Masses) → IfSome kept.old.layout (IsValued p l old) → IfSome kept.new.layout (IsValued p l old) }
-    ensures below { kept.new.below ≡ kept.old.below }
+/// Forgets what is kept of the masses of each of these levels.
+fn forget_all(kept: &mut [KeptLevel])
+    ensures { (p : Problem) (before now : List StateLevel) → AreKept p 0 before kept.old → AreKept p 0 now kept.new }
 {
-    if let Some(layout) = &mut kept.layout {
-        layout.masses_changed();
-    }
-}
-
-/// Readies what is kept of a level for its next step. The ghost cells over the next coarser level get other values than at the last one,
-/// unless it is made `again` beside the same masses of that level.
-pub(crate) fn ready(kept: &mut KeptLevel, again: bool)
-    ensures kept { (p : Problem) (l : ℕ) → IsKeptLevel p l kept.old → IsKeptLevel p l kept.new }
-    ensures current { (M : Masses) → IfSome kept.old.layout (IsCurrentLayout M) → IfSome kept.new.layout (IsCurrentLayout M) }
-    ensures valued { (p : Problem) (l : ℕ) (old : Masses) → (again ≡ true → IfSome kept.old.layout (IsValued p l old))
-        → IfSome kept.new.layout (IsValued p l old) }
-{
-    if again {
-        return;
-    }
-    if let Some(layout) = &mut kept.layout {
-        layout.coarser_changed();
-    }
-}
-
-/// Tells what is kept of each of these levels that its masses changed otherwise than by its step.
-fn forget_masses(kept: &mut [KeptLevel])
-    ensures kept { (p : Problem) → AreKept p 0 kept.old → AreKept p 0 kept.new }
-    ensures current { (levels : List StateLevel) → AreCurrent levels kept.new }
-{
+    let stale = Stale {
+        own: true,
+        coarser: false,
+    };
     for k in 0..kept.len() {
-        forget_masses_of(&mut kept[k]);
+        forget(&mut kept[k].layout, stale);
     }
 }
 
@@ -148,9 +123,7 @@ fn renew<R: Threads + Wait + Sync, G: Gate + Sync>(
     ensures zero { (c : Cell) → entry_in kept.new.register c ≡ pos 0 }
     ensures level { level_of level.new ≡ level_of level.old }
     ensures level_patches { patches_of level.new ≡ patches_of level.old }
-    ensures layout { IfSome layout.new (IsKeptLayout p.now) }
-    ensures current { (M : Masses) → IfSome layout.old (IsCurrentLayout M) → IfSome layout.new (IsCurrentLayout M) }
-    ensures valued { (l : ℕ) (old : Masses) → IfSome layout.old (IsValued p.now l old) → IfSome layout.new (IsValued p.now l old) }
+    ensures layout { StaysKept (λ m. m) layout.old layout.new }
 {
     keep_masses(workers, p, level, &mut kept.before, layout);
     kept.register.clear();
@@ -172,7 +145,7 @@ fn before_in(mut kept: Level, level: &Level) -> Result<Level, NoMemory>
 /// made by as many threads at once as there are workers.
 fn make_below<R: Threads + Sync, G: Gate>(
     workers: &Workers<'_, R, G>,
-    given: &Given<'_>,
+    given: &LevelContext<'_>,
     before: Level,
     level: &Level,
     next: &Level,
@@ -204,10 +177,10 @@ fn make_below<R: Threads + Sync, G: Gate>(
 
 /// What both steps of the next finer level stand on: the level's masses as they are now, and a register of zeros. It is what is kept,
 /// where boxes have not changed, else made anew; room for the masses stays where the level's own boxes have not changed. The level
-/// stays, and the layout that is kept of it. What was kept below it is gone afterwards.
+/// stays, and what is kept of it, but for what was kept below it.
 pub(crate) fn below_for<R: Threads + Wait + Sync, G: Gate + Sync>(
     workers: &mut Workers<'_, R, G>,
-    given: &Given<'_>,
+    given: &LevelContext<'_>,
     level: &mut Level,
     next: &Level,
     own: &mut KeptLevel,
@@ -217,18 +190,14 @@ pub(crate) fn below_for<R: Threads + Wait + Sync, G: Gate + Sync>(
     requires fine { IsLevel given.now.problem.now (suc given.now.level) (level_of next.now) }
     requires nested { IsNestedLevel given.now.problem.now given.now.level (level_of level.old) (level_of next.now) }
     requires crew { (tasks : ℕ) → MayRun G.admits given.now.problem.now tasks workers.old }
-    requires kept { IsKeptLevel given.now.problem.now given.now.level own.old }
+    requires kept { IsKeptIn given.now (level_of level.old) own.old }
     ensures workers { workers.new ≡ workers.old }
     ensures below { IfOk result (IsBelow given.now.problem.now given.now.level (level_of level.old) (level_of next.now)) }
     ensures zero { IfOk result (λ b. (c : Cell) → entry_in b.register c ≡ pos 0) }
     ensures patches { IfOk result (λ b. map box (patches_of b.before) ≡ map box (patches_of level.old)) }
     ensures level { level_of level.new ≡ level_of level.old }
     ensures level_patches { patches_of level.new ≡ patches_of level.old }
-    ensures none { own.new.below ≡ None }
-    ensures layout { IfSome own.new.layout (IsKeptLayout given.now.problem.now) }
-    ensures current { (M : Masses) → IfSome own.old.layout (IsCurrentLayout M) → IfSome own.new.layout (IsCurrentLayout M) }
-    ensures valued { (l : ℕ) (old : Masses) → IfSome own.old.layout (IsValued given.now.problem.now l old)
-        → IfSome own.new.layout (IsValued given.now.problem.now l old) }
+    ensures kept { IsKeptIn given.now (level_of level.new) own.new }
 {
     let Some(mut below) = own.below.take() else {
         return make_below(workers, given, level.copy()?, level, next);
@@ -248,8 +217,8 @@ pub(crate) fn make_room(
     count: usize,
 ) -> Result<Vec<KeptLevel>, NoMemory>
     ensures room { IfOk result (λ ks. count ≤ length ks.items) }
-    ensures kept { (p : Problem) → IfSome kept (λ ks. AreKept p 0 ks.items) → IfOk result (λ ks. AreKept p 0 ks.items) }
-    ensures current { (levels : List StateLevel) → IfSome kept (λ ks. AreCurrent levels ks.items) → IfOk result (λ ks. AreCurrent levels ks.items) }
+    ensures kept { (p : Problem) (levels : List StateLevel) → IfSome kept (λ ks. AreKept p 0 levels ks.items)
+        → IfOk result (λ ks. AreKept p 0 levels ks.items) }
 {
     let mut levels = match kept {
         Some(levels) => levels,

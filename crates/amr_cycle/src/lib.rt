@@ -3,8 +3,8 @@
 //! beside finer ones, and covered cells become the sums of their children.
 #![tactic(auto)]
 
+mod context;
 mod correction;
-mod given;
 mod kept;
 mod levels;
 mod steps;

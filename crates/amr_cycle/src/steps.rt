@@ -10,10 +10,10 @@ ghost use Rattle.amr_patch.specs.Levels.{level_of};
 ghost use Rattle.amr_patch.specs.Meshes.{is_spent, levels_of, state_of};
 ghost use Rattle.amr_flows.specs.Subcycle.{flows_of_step};
 ghost use Rattle.amr_advance.specs.Crews.{MayRun};
-ghost use Rattle.amr_cycle.specs.Kept.{AreCurrent, AreKept, IsCurrent, IsKeptFor};
+ghost use Rattle.amr_cycle.specs.Kept.{AreKept, IsKeptFor};
 ghost use Rattle.amr_cycle.specs.Cycles.{AreCoarsenableAbove, HasStepToCome, patch_boxes};
 
-use crate::given::Given;
+use crate::context::LevelContext;
 use crate::kept::{Kept, KeptLevel, make_room};
 use crate::levels::step_levels;
 use amr_advance::{Crew, Regs, Workers};
@@ -43,19 +43,17 @@ fn step_all<R: Threads + Wait + Sync, G: Gate + Sync>(
     requires to_come { HasStepToCome p.now (map level_of levels.old) }
     requires coarsenable { AreCoarsenableAbove levels.old }
     requires crew { (tasks : ℕ) → MayRun G.admits p.now tasks workers.old }
-    requires kept { AreKept p.now 0 kept.old }
-    requires current { AreCurrent (map level_of levels.old) kept.old }
+    requires kept { AreKept p.now 0 (map level_of levels.old) kept.old }
     requires room { length levels.old ≤ length kept.old }
     ensures workers { workers.new ≡ workers.old }
-    ensures kept { OnOk result (AreKept p.now 0 kept.new) }
-    ensures current { OnOk result (AreCurrent (map level_of levels.new) kept.new) }
+    ensures kept { OnOk result (AreKept p.now 0 (map level_of levels.new) kept.new) }
     ensures kept_count { OnOk result (length kept.new ≡ length kept.old) }
     ensures levels { OnOk result (map level_of levels.new ≡ after_step p.now 0 (map level_of levels.old) no_masses) }
     ensures patches { OnOk result (patch_boxes levels.new ≡ patch_boxes levels.old) }
     ensures inflow { IfOk result (λ f. f.inflow ≡ flows_of_step (inflow_beside p.now) p.now 0 (map level_of levels.old) no_masses) }
     ensures outflow { IfOk result (λ f. f.outflow ≡ flows_of_step (outflow_beside p.now) p.now 0 (map level_of levels.old) no_masses) }
 {
-    let given = Given {
+    let given = LevelContext {
         alloc,
         problem: p,
         level: 0,
@@ -119,7 +117,7 @@ pub fn step<R: Threads + Wait + Sync, G: Gate + Sync>(
 
 /// The same as `step`, for a run of many steps: what depends on boxes alone is taken from `kept`, and left there for the next step.
 /// What no longer fits the boxes is made anew. There are from 1 to 64 workers, who may be a team that lasts. `kept` and the team are
-/// of the same problem, and what is kept of masses is of those that the mesh has. After `NoMemory` what is kept is only dropped.
+/// of the same problem, and `kept` is of the levels that the mesh has. After `NoMemory` what is kept is only dropped.
 pub fn step_kept<R: Threads + Wait + Sync, G: Gate + Sync>(
     workers: &mut Workers<'_, R, G>,
     p: &Problem,
@@ -131,16 +129,14 @@ pub fn step_kept<R: Threads + Wait + Sync, G: Gate + Sync>(
     requires to_come { (state_of mesh.old).step < p.now.steps }
     requires coarsenable { AreCoarsenableAbove (levels_of mesh.old) }
     requires crew { (tasks : ℕ) → MayRun G.admits p.now tasks workers.old }
-    requires kept { IsKeptFor p.now kept.old }
-    requires current { IsCurrent (state_of mesh.old).levels kept.old }
+    requires kept { IsKeptFor p.now (state_of mesh.old).levels kept.old }
     ensures workers { workers.new ≡ workers.old }
     ensures value { OnOk result (state_of mesh.new ≡ stepped p.now (state_of mesh.old)) }
     ensures sound { OnOk result (IsSound p.now (state_of mesh.new)) }
     ensures patches { OnOk result (patch_boxes (levels_of mesh.new) ≡ patch_boxes (levels_of mesh.old)) }
     ensures whole { OnOk result (is_spent mesh.new ≡ false) }
     ensures spent { OnErr result (is_spent mesh.new ≡ true) }
-    ensures kept { OnOk result (IsKeptFor p.now kept.new) }
-    ensures current { OnOk result (IsCurrent (state_of mesh.new).levels kept.new) }
+    ensures kept { OnOk result (IsKeptFor p.now (state_of mesh.new).levels kept.new) }
 {
     let number = mesh.step();
     let (mut rows, mut levels) = mesh.take();

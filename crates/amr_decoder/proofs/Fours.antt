@@ -1,10 +1,9 @@
 -- Spans of a row and of the rows of its children: each mass is the sum of a four exactly where the cell has the mass of its
 -- children.
-use Rattle.std.proofs.Common.{◌≡◌, ℕ, ◌+◌, ◌*◌, ◌<◌, ◌≤◌, ◌-◌, pos, ◌+ℤ◌, List, length, get_or, true, sym, ap, subst, ◌∙◌, arith, ◌⊎◌, inl, inr}
+use Rattle.std.proofs.Common.{◌≡◌, ℕ, ◌+◌, ◌*◌, ◌<◌, ◌-◌, pos, ◌+ℤ◌, List, length, get_or, true, sym, ap, ◌∙◌, arith}
 use Rattle.std.specs.Prelude.{IfSome}
 use Rattle.std.specs.declared.option.Option.{Option}
 use Rattle.std.specs.declared.option.Option.TheVariants.{None, Some}
-use Rattle.std.proofs.lemmas.Bool.{cases_lt}
 use Rattle.std.proofs.lemmas.Int.{ints}
 use Rattle.amr_box.specs.Cells.{Extent, HasCorners, cell, child, half}
 use Rattle.amr_box.proofs.CellEquality.{same_cell}
@@ -68,13 +67,6 @@ aligned_over blocking coarse fine b parents h aligned k placed over fine_cells c
     }
 
 -- ---- columns in a row
-
-pub more_columns : (P : ℕ → Type 0) (a n : ℕ) → ((i : ℕ) → i < a → P i) → ((k : ℕ) → k < n → P (a + k)) → (i : ℕ) → i < a + n → P i
-more_columns P a n before next i lt = choose (cases_lt i a)
-  where
-    choose : (i < a) ⊎ (a ≤ i) → P i
-    choose (inl few) = before i few
-    choose (inr most) = let back : a + (i - a) ≡ i = omega (arith, most) in subst P back (next (i - a) (omega (arith, lt, most)))
 
 pub some_weaker : (o : Option ℕ) (P Q : ℕ → Type 0) → ((n : ℕ) → P n → Q n) → IfSome o P → IfSome o Q
 some_weaker None P Q f h = tt

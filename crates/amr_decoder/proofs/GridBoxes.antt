@@ -1,7 +1,6 @@
 -- The boxes of a list of boxes with their masses.
 use Rattle.std.proofs.Common.{◌≡◌, ℕ, zero, suc, ◌+◌, ◌<◌, Bool, true, false, ◌||◌, List, [], ◌∷◌, ◌++◌, length, get_or, map, take, cond, refl, sym, ap, ◌∙◌, arith, ◌⊎◌, inl, inr}
 use Rattle.std.specs.Prelude.{slice_index_or, is_some}
-use Rattle.std.specs.Int.{Width}
 use Rattle.std.specs.declared.option.Option.{Option}
 use Rattle.std.specs.declared.option.Option.TheVariants.{None, Some}
 use Rattle.std.proofs.lemmas.Bool.{both_ways, false_from_ne_true, or_cases}
@@ -23,9 +22,9 @@ use Rattle.amr_decoder.specs.Filled.{AreGridsSet}
 use Rattle.amr_decoder.specs.Grids.{boxes_of, grid_of}
 use Rattle.amr_patch.proofs.SameBoxes.{in_same_boxes}
 
-pub boxes_of_grids : (w : Width) (bytes : List ℕ) (gs : List Grid) → map (λ g. g.box) (map (grid_of w bytes) gs) ≡ boxes_of gs
-boxes_of_grids w bytes [] = refl
-boxes_of_grids w bytes (g ∷ gs) = ap (λ (bs : List Extent). g.bx ∷ bs) (boxes_of_grids w bytes gs)
+pub boxes_of_grids : (bytes : List ℕ) (gs : List Grid) → map (λ g. g.box) (map (grid_of bytes) gs) ≡ boxes_of gs
+boxes_of_grids bytes [] = refl
+boxes_of_grids bytes (g ∷ gs) = ap (λ (bs : List Extent). g.bx ∷ bs) (boxes_of_grids bytes gs)
 
 pub box_at_place : (gs : List Grid) (i : ℕ) (g : Grid) → i < length gs → g ≡ get_or gs i g → slice_index_or (boxes_of gs) i g.bx ≡ g.bx
 box_at_place [] i g h is = absurd (omega arith)
@@ -77,17 +76,17 @@ all_masses gs ps qs filled inside = λ i d. at d (in_boxes (map (λ g. g.box) gs
 
 -- ---- a level that is made of them
 
-pub made_level : (w : Width) (bytes : List ℕ) (gs : List Grid) (ps qs : List Patch) (k : Level) → k.boxes ≡ boxes_of gs → k.masses ≡ masses_in qs
-    → ((d : Cell) → masses_in ps d ≡ cond {A = Option ℕ} (in_boxes (boxes_of gs) d) (Some 0) None) → AreGridsSet (map (grid_of w bytes) gs) ps qs → k ≡ tests.level_of (map (grid_of w bytes) gs)
+pub made_level : (bytes : List ℕ) (gs : List Grid) (ps qs : List Patch) (k : Level) → k.boxes ≡ boxes_of gs → k.masses ≡ masses_in qs
+    → ((d : Cell) → masses_in ps d ≡ cond {A = Option ℕ} (in_boxes (boxes_of gs) d) (Some 0) None) → AreGridsSet (map (grid_of bytes) gs) ps qs → k ≡ tests.level_of (map (grid_of bytes) gs)
 unfolding tests.level_of
-made_level w bytes gs ps qs k boxes masses blank filled =
-    let same = all_masses (map (grid_of w bytes) gs) ps qs filled (λ d h. ap (λ (bs : List Extent). in_boxes bs d) (boxes_of_grids w bytes gs) ∙ in_blank d (in_boxes (boxes_of gs) d) (blank d) h) in
-    λ i. record { boxes = (boxes ∙ sym (boxes_of_grids w bytes gs)) i; masses = (masses ∙ same) i }
+made_level bytes gs ps qs k boxes masses blank filled =
+    let same = all_masses (map (grid_of bytes) gs) ps qs filled (λ d h. ap (λ (bs : List Extent). in_boxes bs d) (boxes_of_grids bytes gs) ∙ in_blank d (in_boxes (boxes_of gs) d) (blank d) h) in
+    λ i. record { boxes = (boxes ∙ sym (boxes_of_grids bytes gs)) i; masses = (masses ∙ same) i }
   where
     in_blank : (d : Cell) (t : Bool) → masses_in ps d ≡ cond {A = Option ℕ} t (Some 0) None → in_patches ps d ≡ true → t ≡ true
     in_blank d true is h = refl
     in_blank d false is h = absurd (both_ways (is_some (masses_in ps d)) (ap is_some is) (some_from ps d h))
 
-pub level_boxes : (w : Width) (bytes : List ℕ) (gs : List Grid) → (tests.level_of (map (grid_of w bytes) gs)).boxes ≡ boxes_of gs
+pub level_boxes : (bytes : List ℕ) (gs : List Grid) → (tests.level_of (map (grid_of bytes) gs)).boxes ≡ boxes_of gs
 unfolding tests.level_of
-level_boxes w bytes gs = boxes_of_grids w bytes gs
+level_boxes bytes gs = boxes_of_grids bytes gs

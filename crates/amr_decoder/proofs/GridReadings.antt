@@ -2,7 +2,6 @@
 use Rattle.std.proofs.Common.{◌≡◌, ℕ, zero, suc, ◌+◌, ◌-◌, ◌<◌, Bool, true, false, ◌&&◌, ◌||◌, not, List, [], ◌∷◌, refl, sym, ap, ◌∙◌, arith}
 use Rattle.std.proofs.Math.Bool.{or-false, or_comm}
 use Rattle.std.specs.Prelude.{nat_lt, reverse}
-use Rattle.std.specs.Int.{Width}
 use Rattle.std.specs.List.{list_any}
 use Rattle.std.proofs.lemmas.Bool.Decides.{nat_tests}
 use Rattle.std.proofs.lemmas.List.{reverse-append}
@@ -10,6 +9,7 @@ use Rattle.std.proofs.lemmas.List.Folds.{list_any-append}
 use Rattle.std.proofs.lemmas.Bool.{and_right, not_from_true}
 use Rattle.amr_box.specs.Cells.{Extent}
 use Rattle.amr_def.specs.declared.problem.Problem.{Problem}
+use Rattle.amr_payload.specs.Payload.{Form}
 use Rattle.amr_payload.specs.Tests.{Left, Grid, read, then_read, read_also, is_box_of, meets, read_grid, read_grids}
 use Rattle.amr_decoder.specs.declared.faults.CodecFault.{CodecFault}
 use Rattle.amr_decoder.specs.Faults.{IsFaultOf}
@@ -48,20 +48,20 @@ clear p (suc l) earlier b fit h = fine_with p (suc l) earlier b (λ e. absurd (c
 
 -- ---- one box after another
 
-module _ (w : Width) (p : Problem) (n l : ℕ) where
-  pub grid_next : (count k : ℕ) (earlier : List Extent) (g : Grid) (r e : Left) → k < count → read_grid w p n l earlier r ≡ read g e
-      → read_grids w p n l (count - k) earlier r ≡ read_also g (read_grids w p n l (count - (k + 1)) (g.box ∷ earlier) e)
+module _ (f : Form) (p : Problem) (n l : ℕ) where
+  pub grid_next : (count k : ℕ) (earlier : List Extent) (g : Grid) (r e : Left) → k < count → read_grid f p n l earlier r ≡ read g e
+      → read_grids f p n l (count - k) earlier r ≡ read_also g (read_grids f p n l (count - (k + 1)) (g.box ∷ earlier) e)
   grid_next count k earlier g r e inside first =
-      ap (λ j. read_grids w p n l j earlier r) (one_left count k inside)
-      ∙ ap (λ q. then_read q (λ g a. read_also g (read_grids w p n l (count - (k + 1)) (g.box ∷ earlier) a))) first
+      ap (λ j. read_grids f p n l j earlier r) (one_left count k inside)
+      ∙ ap (λ q. then_read q (λ g a. read_also g (read_grids f p n l (count - (k + 1)) (g.box ∷ earlier) a))) first
 
-  pub grid_bad : (count k : ℕ) (earlier : List Extent) (r : Left) (e : CodecFault) → k < count → IsFaultOf (read_grid w p n l earlier r) e → IsFaultOf (read_grids w p n l (count - k) earlier r) e
+  pub grid_bad : (count k : ℕ) (earlier : List Extent) (r : Left) (e : CodecFault) → k < count → IsFaultOf (read_grid f p n l earlier r) e → IsFaultOf (read_grids f p n l (count - k) earlier r) e
   grid_bad count k earlier r e inside h =
-      fault_same (read_grids w p n l (count - k) earlier r) (read_grids w p n l (suc (count - (k + 1))) earlier r) e (ap (λ j. read_grids w p n l j earlier r) (one_left count k inside))
-      (fault_first (read_grid w p n l earlier r) (λ g a. read_also g (read_grids w p n l (count - (k + 1)) (g.box ∷ earlier) a)) e h)
+      fault_same (read_grids f p n l (count - k) earlier r) (read_grids f p n l (suc (count - (k + 1))) earlier r) e (ap (λ j. read_grids f p n l j earlier r) (one_left count k inside))
+      (fault_first (read_grid f p n l earlier r) (λ g a. read_also g (read_grids f p n l (count - (k + 1)) (g.box ∷ earlier) a)) e h)
 
-  pub grids_end : (count k : ℕ) (earlier : List Extent) (r : Left) → count - k ≡ 0 → read_grids w p n l (count - k) earlier r ≡ read [] r
-  grids_end count k earlier r none = ap (λ j. read_grids w p n l j earlier r) none
+  pub grids_end : (count k : ℕ) (earlier : List Extent) (r : Left) → count - k ≡ 0 → read_grids f p n l (count - k) earlier r ≡ read [] r
+  grids_end count k earlier r none = ap (λ j. read_grids f p n l j earlier r) none
 
-  pub no_grid_yet : (count : ℕ) (r : Left) → read_grids w p n l count [] r ≡ read_grids w p n l (count - 0) [] r
-  no_grid_yet count r = let same : count ≡ count - 0 = omega arith in ap (λ j. read_grids w p n l j [] r) same
+  pub no_grid_yet : (count : ℕ) (r : Left) → read_grids f p n l count [] r ≡ read_grids f p n l (count - 0) [] r
+  no_grid_yet count r = let same : count ≡ count - 0 = omega arith in ap (λ j. read_grids f p n l j [] r) same

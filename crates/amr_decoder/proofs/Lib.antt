@@ -14,3 +14,5 @@ pub mod MassSums
 pub mod States
 pub mod Fours
 pub mod ParentSets
+mod ChangedRows
+mod Ledgers

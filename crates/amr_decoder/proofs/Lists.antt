@@ -1,6 +1,6 @@
 -- Several values, read one after another.
-use Rattle.std.proofs.Common.{◌≡◌, ℕ, suc, ◌+◌, ◌-◌, ◌<◌, List, [], ◌∷◌, ◌++◌, refl, ap, ◌∙◌, arith, append-nil}
-use Rattle.amr_payload.specs.Tests.{Left, Reading, bad, read, read_also}
+use Rattle.std.proofs.Common.{◌≡◌, ℕ, suc, ◌+◌, ◌-◌, ◌<◌, List, [], ◌∷◌, ◌++◌, refl, sym, ap, ◌∙◌, arith, append-nil}
+use Rattle.amr_payload.specs.Tests.{Left, Reading, bad, read, read_also, read_joined}
 use Rattle.amr_decoder.specs.declared.faults.CodecFault.{CodecFault}
 use Rattle.amr_decoder.specs.declared.faults.CodecFault.TheVariants.{Bad, NoMemory}
 use Rattle.amr_decoder.specs.Faults.{IsFaultOf}
@@ -26,6 +26,15 @@ also_bad (x ∷ xs) place = ap (λ q. read_also x q) (also_bad xs place)
 pub fault_all : {A : Type 0} (xs : List A) (q : Reading (List A)) (e : CodecFault) → IsFaultOf q e → IsFaultOf (also_all xs q) e
 fault_all xs q (Bad place) h = ap (also_all xs) h ∙ also_bad xs place
 fault_all xs q NoMemory h = tt
+
+-- values and then others, in either way
+pub joined_all : {A : Type 0} (xs : List A) (q : Reading (List A)) → read_joined xs q ≡ also_all xs q
+joined_all xs (bad place) = sym (also_bad xs place)
+joined_all xs (read ys l) = sym (also_end xs ys l)
+
+pub also_one : {A : Type 0} (x : A) (q : Reading (List A)) → read_joined (x ∷ []) q ≡ read_also x q
+also_one x (bad place) = refl
+also_one x (read ys l) = refl
 
 -- one value more
 pub more : {A : Type 0} (q : Reading (List A)) (xs : List A) (x : A) (now next : Reading (List A)) → q ≡ also_all xs now → now ≡ read_also x next → q ≡ also_all (xs ++ x ∷ []) next

@@ -4,7 +4,7 @@ use Rattle.std.specs.Prelude.{nat_le, slice_index}
 use Rattle.std.specs.Int.{Width, byte_len, from_le_bytes}
 use Rattle.std.proofs.lemmas.Bool.{both_ways, le-leb, leb-true, lt-leb}
 use Rattle.std.proofs.lemmas.Nat.{div-add-mod', le-div}
-use Rattle.std.proofs.Math.Nat.{mul-le-mul_left, mul-le-mul_right}
+use Rattle.std.proofs.Math.Nat.{mul-le-mul_right}
 use Rattle.std.proofs.lemmas.List.FromFn.{get_or-map-range_with_len, map-range_with_len_more}
 use Rattle.amr_def.specs.declared.problem.Problem.{Problem}
 use Rattle.amr_def.proofs.Courants.{four_power}
@@ -93,9 +93,3 @@ row_number w from columns j i bytes =
   where
     place : (len : ℕ) → from + len * columns * j + len * i ≡ from + len * (j * columns + i)
     place len = omega (arith, mul_assoc len columns j, mul_comm columns j, mul-add len (j * columns) i)
-
--- a row of masses lies before the end of all
-pub row_place : (len columns rows j from n : ℕ) → j < rows → from + len * (columns * rows) ≤ n → from + len * columns * j + len * columns ≤ n
-row_place len columns rows j from n h inside =
-    let part : len * columns * (j + 1) ≤ len * columns * rows = mul-le-mul_left (len * columns) (omega arith) in
-    omega (arith, part, mul-add (len * columns) j 1, mul_assoc len columns rows, inside)

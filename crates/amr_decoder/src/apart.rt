@@ -61,8 +61,9 @@ impl Apart {
         ensures grids { OnOk result (self.new.grids ≡ self.old.grids ++ grid ∷ []) }
         ensures below { OnOk result (self.new.below ≡ self.old.below) }
     {
+        let parents = grid.bx.coarsen2();
         self.grids.push(grid)?;
-        self.parents.set_in(grid.bx.coarsen2());
+        self.parents.set_in(parents);
         Ok(())
     }
 

@@ -23,15 +23,15 @@ pub(crate) struct Corners {
 }
 
 #[tactic(auto, unfolding(amr_payload::specs::Tests::read_box))]
-pub(crate) fn read_corners(r: &mut Reader<'_>) -> Result<Corners, CodecFault>
-    ensures read { IfOk result (λ b. read_box (left_of r.old) ≡ read (box_at b) (left_of r.new)) }
-    ensures bad { IfErr result (IsFaultOf (read_box (left_of r.old))) }
-    ensures whole { whole_of r.new ≡ whole_of r.old }
+pub(crate) fn read_corners(reader: &mut Reader<'_>) -> Result<Corners, CodecFault>
+    ensures read { IfOk result (λ b. read_box (left_of reader.old) ≡ read (box_at b) (left_of reader.new)) }
+    ensures bad { IfErr result (IsFaultOf (read_box (left_of reader.old))) }
+    ensures whole { whole_of reader.new ≡ whole_of reader.old }
 {
-    let west = r.read_u32()?;
-    let south = r.read_u32()?;
-    let east = r.read_u32()?;
-    let north = r.read_u32()?;
+    let west = reader.read_u32()?;
+    let south = reader.read_u32()?;
+    let east = reader.read_u32()?;
+    let north = reader.read_u32()?;
     Ok(Corners {
         west,
         south,

@@ -4,12 +4,13 @@ ghost use Rattle.std.specs.Prelude.{◌≡◌, false, IfOk, IfErr};
 ghost use Rattle.std.specs.Int.{w32, w64};
 ghost use Rattle.std.specs.List.{All};
 ghost use Rattle.std.specs.declared.result.Result.TheVariants.{Ok};
+ghost use Rattle.amr_codec.specs.Forms.{IsBasisOf, basis_of};
 ghost use Rattle.amr_codec.specs.MassWidths.{width_of};
 ghost use Rattle.amr_def.specs.Facts.{IsSound};
 ghost use Rattle.amr_def.specs.State.{State};
 ghost use Rattle.amr_patch.specs.Meshes.{is_spent, levels_of, state_of};
 ghost use Rattle.amr_payload.specs.Payload.{payload};
-ghost use Rattle.amr_payload.specs.Tests.{decoded, read, read_state, row_place};
+ghost use Rattle.amr_payload.specs.Tests.{decoded, read, read_state};
 ghost use Rattle.amr_start.specs.PatchBoxes.{IsChopped};
 ghost use Rattle.amr_decoder.specs.Faults.{IsFaultOf, IsRefusalOf};
 ghost use Rattle.amr_decoder.specs.Lefts.{left_of};
@@ -17,41 +18,41 @@ ghost use Rattle.amr_decoder.specs.declared.faults.CodecFault.TheVariants.{NoMem
 
 use crate::faults::CodecFault;
 use crate::finer::read_levels;
-use crate::ledger::{read_rows, read_step};
+use crate::ledger::{read_ledger, read_step};
 use crate::reader::Reader;
 use crate::totals::is_in_balance;
-use amr_codec::MassWidth;
+use amr_codec::{Basis, MassWidth, rows_before};
 use amr_def::Problem;
 use amr_patch::Mesh;
 use std::alloc::Global;
 
-/// The place of the row of the ledger after step `k`.
-fn row_place(k: u32) -> u64
-    ensures { result ≡ row_place k }
-{
-    4 + 24 * u64::from(k)
-}
+/// How many bytes a row of the ledger takes.
+const LEDGER_ROW_LEN: u64 = 24;
 
-/// A state, whose last row has the mass of level 0.
+/// A state on a basis, whose last row has the mass of level 0. It is sound, and its patches have at most `max_grid_size` by
+/// `max_grid_size` cells. The reader then stands behind it. `Bad` is at the place of the first test that fails.
 #[tactic(auto, unfolding(amr_payload::specs::Tests::read_state))]
-fn read_state(
+pub fn read_state(
     alloc: Global,
     p: &Problem,
-    width: MassWidth,
-    r: &mut Reader<'_>,
+    basis: &Basis<'_>,
+    reader: &mut Reader<'_>,
 ) -> Result<Mesh, CodecFault>
-    ensures read { IfOk result (λ mesh. read_state (width_of width) p.now (left_of r.old) ≡ read (state_of mesh) (left_of r.new)) }
-    ensures bad { IfErr result (IsFaultOf (read_state (width_of width) p.now (left_of r.old))) }
+    requires { IsBasisOf p.now basis.now }
+    ensures read { IfOk result (λ mesh. read_state (basis_of basis.now) p.now (left_of reader.old) ≡ read (state_of mesh) (left_of reader.new)) }
+    ensures bad { IfErr result (IsFaultOf (read_state (basis_of basis.now) p.now (left_of reader.old))) }
     ensures whole { IfOk result (λ mesh. is_spent mesh ≡ false) }
     ensures chopped { IfOk result (λ mesh. All (IsChopped p.now.max_grid_size) (levels_of mesh)) }
 {
-    let step = read_step(p, r)?;
-    let rows = read_rows(alloc, step, r)?;
-    let levels = read_levels(alloc, p, width, step, r)?;
+    let before = rows_before(p, basis);
+    let step = read_step(p, before, reader)?;
+    let rows = read_ledger(alloc, p, basis, step, reader)?;
+    let behind_rows = reader.place() as u64;
+    let levels = read_levels(alloc, p, basis, step, reader)?;
     let last = rows[step as usize];
     if !is_in_balance(p, last, &levels) {
         return Err(CodecFault::Bad {
-            place: row_place(step),
+            place: behind_rows - LEDGER_ROW_LEN,
         });
     }
     Ok(Mesh::of(step, rows, levels))
@@ -70,11 +71,11 @@ fn read_payload(
     ensures whole { IfOk result (λ mesh. is_spent mesh ≡ false) }
     ensures chopped { IfOk result (λ mesh. All (IsChopped p.now.max_grid_size) (levels_of mesh)) }
 {
-    let mut r = Reader::of(bytes);
-    let mesh = read_state(alloc, p, width, &mut r)?;
-    if r.count_left() > 0 {
+    let mut reader = Reader::of(bytes);
+    let mesh = read_state(alloc, p, &Basis::Alone(width), &mut reader)?;
+    if reader.count_left() > 0 {
         return Err(CodecFault::Bad {
-            place: r.place() as u64,
+            place: reader.place() as u64,
         });
     }
     Ok(mesh)

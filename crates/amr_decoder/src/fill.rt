@@ -1,6 +1,6 @@
 //! Masses of a payload, placed in the patches of a level. A row of a box is read at once, and a span of it is one look-up.
 
-ghost use Rattle.std.specs.Prelude.{◌≡◌, ℕ, ◌+◌, ◌*◌, ◌<◌, ◌≤◌, ◌^◌, pos, ◌+ℤ◌, ◌-ℤ◌, ◌≤ℤ◌, drop, length, map, IsTrue, OnOk};
+ghost use Rattle.std.specs.Prelude.{◌≡◌, ℕ, ◌+◌, ◌*◌, ◌<◌, ◌≤◌, ◌^◌, pos, ◌+ℤ◌, ◌-ℤ◌, ◌≤ℤ◌, drop, length, map, slice_index, IsTrue, OnOk};
 ghost use Rattle.std.specs.Int.{byte_len, w32, w64};
 ghost use Rattle.std.specs.List.{All};
 ghost use Rattle.amr_box.specs.declared.Cell.{Cell};
@@ -10,10 +10,10 @@ ghost use Rattle.amr_codec.specs.MassWidths.{width_of};
 ghost use Rattle.amr_patch.specs.Orders.{IsOrderOf};
 ghost use Rattle.amr_patch.specs.Patches.{ArePairwiseApart, ArePatchesApart, box, in_patches};
 ghost use Rattle.amr_decoder.specs.Filled.{AreGridsSet, IsGridSet, IsPlaced, IsSpanSet};
-ghost use Rattle.amr_decoder.specs.Grids.{HasSmallMasses, IsInside, boxes_of, grid_of};
+ghost use Rattle.amr_decoder.specs.Grids.{IsWhole, boxes_of, grid_of};
 ghost use Rattle.amr_decoder.specs.Numbers.{number_at, numbers};
 
-use crate::grid::Grid;
+use crate::grid::{Grid, Source};
 use crate::reader::{long_at, mass_len, word_at};
 use amr_box::{Cell, distance};
 use amr_causes::NoMemory;
@@ -104,27 +104,37 @@ fn read_row(bytes: &[u8], width: MassWidth, from: usize, row: &mut [u32])
     }
 }
 
+/// Row `j` of the masses of a box.
+fn read_grid_row(grid: &Grid, bytes: &[u8], j: u32, row: &mut [u32])
+    requires masses { IsWhole bytes.now grid.now }
+    requires row { length row.old ≡ boxes.width grid.now.bx }
+    requires inside { j < boxes.height grid.now.bx }
+    ensures { (i : ℕ) → i < length row.old → slice_index row.new i ≡ slice_index (grid_of bytes.now grid.now).masses (j * length row.old + i) }
+{
+    let first = row.len() * j as usize;
+    match &grid.masses {
+        Source::Bytes(width, from) => read_row(
+            bytes,
+            *width,
+            *from + mass_len(*width) * first,
+            row,
+        ),
+        Source::List(masses) => row.copy_from_slice(&masses[first..first + row.len()]),
+    }
+}
+
 /// Gives the cells of a box their masses, row by row, each through `row`.
-fn fill_rows(
-    patches: &mut [Patch],
-    order: Order,
-    bytes: &[u8],
-    width: MassWidth,
-    grid: &Grid,
-    row: &mut [u32],
-)
+fn fill_rows(patches: &mut [Patch], order: Order, bytes: &[u8], grid: &Grid, row: &mut [u32])
     requires order { IsOrderOf order patches.old }
     requires apart { ArePatchesApart patches.old }
     requires cells { (c : Cell) → IsTrue (holds grid.now.bx c) → IsTrue (in_patches patches.old c) }
     requires placed { IsPlaced grid.now.bx }
-    requires inside { IsInside (width_of width) bytes.now grid.now }
-    requires small { HasSmallMasses (width_of width) bytes.now grid.now }
+    requires masses { IsWhole bytes.now grid.now }
     requires row { length row.old ≡ boxes.width grid.now.bx }
-    ensures { IsGridSet (grid_of (width_of width) bytes.now grid.now) patches.old patches.new }
+    ensures { IsGridSet (grid_of bytes.now grid.now) patches.old patches.new }
 {
-    let len = mass_len(width) * row.len();
     for j in 0..grid.bx.height() {
-        read_row(bytes, width, grid.from + len * j as usize, row);
+        read_grid_row(grid, bytes, j, row);
         set_row(patches, order, cell_in(&grid.bx, j, 0), row);
     }
 }
@@ -134,7 +144,6 @@ fn fill_box(
     patches: &mut [Patch],
     order: Order,
     bytes: &[u8],
-    width: MassWidth,
     grid: &Grid,
     row: &mut Vec<u32>,
 ) -> Result<(), NoMemory>
@@ -142,12 +151,11 @@ fn fill_box(
     requires apart { ArePatchesApart patches.old }
     requires cells { (c : Cell) → IsTrue (holds grid.now.bx c) → IsTrue (in_patches patches.old c) }
     requires placed { IsPlaced grid.now.bx }
-    requires inside { IsInside (width_of width) bytes.now grid.now }
-    requires small { HasSmallMasses (width_of width) bytes.now grid.now }
-    ensures { OnOk result (IsGridSet (grid_of (width_of width) bytes.now grid.now) patches.old patches.new) }
+    requires masses { IsWhole bytes.now grid.now }
+    ensures { OnOk result (IsGridSet (grid_of bytes.now grid.now) patches.old patches.new) }
 {
     row.resize(grid.bx.width() as usize, 0)?;
-    fill_rows(patches, order, bytes, width, grid, row);
+    fill_rows(patches, order, bytes, grid, row);
     Ok(())
 }
 
@@ -157,7 +165,6 @@ pub(crate) fn fill_boxes(
     patches: &mut [Patch],
     order: Order,
     bytes: &[u8],
-    width: MassWidth,
     grids: &[Grid],
 ) -> Result<(), NoMemory>
     requires order { IsOrderOf order patches.old }
@@ -165,13 +172,12 @@ pub(crate) fn fill_boxes(
     requires disjoint { ArePairwiseApart (boxes_of grids.now) }
     requires cells { (c : Cell) → IsTrue (in_boxes (boxes_of grids.now) c) → IsTrue (in_patches patches.old c) }
     requires placed { All IsPlaced (boxes_of grids.now) }
-    requires inside { All (IsInside (width_of width) bytes.now) grids.now }
-    requires small { All (HasSmallMasses (width_of width) bytes.now) grids.now }
-    ensures { OnOk result (AreGridsSet (map (grid_of (width_of width) bytes.now) grids.now) patches.old patches.new) }
+    requires masses { All (IsWhole bytes.now) grids.now }
+    ensures { OnOk result (AreGridsSet (map (grid_of bytes.now) grids.now) patches.old patches.new) }
 {
     let mut row = Vec::new(alloc);
     for grid in grids {
-        fill_box(patches, order, bytes, width, grid, &mut row)?;
+        fill_box(patches, order, bytes, grid, &mut row)?;
     }
     Ok(())
 }

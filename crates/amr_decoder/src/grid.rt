@@ -1,10 +1,20 @@
-//! A box of a payload and the place of its masses.
+//! A box of a payload and its masses.
 
 use amr_box::Bx;
+use amr_codec::MassWidth;
 
-/// A box, and the place of the first of its masses, which go row by row from the low row, within a row from the low column.
-#[derive(Clone, Copy)]
+/// Where the masses of a box are: row by row from the low row, within a row from the low column.
+#[derive(Drop)]
+pub(crate) enum Source {
+    /// In the bytes, each of a width, from a place on.
+    Bytes(MassWidth, usize),
+    /// In a list.
+    List(Vec<u32>),
+}
+
+/// A box and its masses.
+#[derive(Drop)]
 pub(crate) struct Grid {
     pub bx: Bx,
-    pub from: usize,
+    pub masses: Source,
 }

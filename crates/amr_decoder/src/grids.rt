@@ -3,23 +3,25 @@
 ghost use Rattle.std.specs.Prelude.{◌≡◌, ◌&&◌, ◌≤◌, ◌-◌, ◌<◌, nat_lt, true, false, [], map, IfOk, IfErr, IfSome, IfNone};
 ghost use Rattle.std.specs.List.{All, list_any};
 ghost use Rattle.amr_box.specs.Cells.{IsNear};
-ghost use Rattle.amr_codec.specs.MassWidths.{width_of};
+ghost use Rattle.amr_codec.specs.Forms.{form_of};
 ghost use Rattle.amr_def.specs.Domain.{domain, domain_box};
 ghost use Rattle.amr_payload.specs.Tests.{is_box_of, meets, read, read_grid, read_grids};
 ghost use Rattle.amr_decoder.specs.Apart.{AreOfLevel, IsOverParents, newest_first};
 ghost use Rattle.amr_decoder.specs.Boxes.{box_at};
 ghost use Rattle.amr_decoder.specs.Faults.{IsFaultOf};
-ghost use Rattle.amr_decoder.specs.Grids.{HasSmallMasses, IsInside, boxes_of, grid_of};
+ghost use Rattle.amr_decoder.specs.Grids.{IsWhole, boxes_of, grid_of};
 ghost use Rattle.amr_decoder.specs.Lefts.{left_of, whole_of};
 
 use crate::apart::Apart;
 use crate::boxes::{Corners, as_box, is_fit, read_corners};
+use crate::changed::read_box_masses;
 use crate::faults::CodecFault;
 use crate::grid::Grid;
-use crate::masses::{MassKind, read_masses};
+use crate::masses::MassKind;
 use crate::reader::Reader;
 use amr_box::Bx;
 use amr_causes::NoMemory;
+use amr_codec::Form;
 use amr_def::{Dom, Problem};
 use std::alloc::Global;
 
@@ -54,30 +56,30 @@ fn tested_box(p: &Problem, l: u32, earlier: &Apart, b: Corners) -> Option<Bx>
 /// A box and its masses.
 #[tactic(auto, unfolding(amr_payload::specs::Tests::read_grid))]
 fn read_grid(
+    alloc: Global,
     p: &Problem,
+    form: &Form<'_>,
     kind: MassKind,
     earlier: &Apart,
-    r: &mut Reader<'_>,
+    reader: &mut Reader<'_>,
 ) -> Result<Grid, CodecFault>
     requires step { kind.step ≤ 4096 }
     requires level { kind.level ≤ 4 }
     requires earlier { AreOfLevel p.now kind.level earlier.now }
-    ensures read { IfOk result (λ g. read_grid (width_of kind.width) p.now kind.step kind.level (newest_first earlier.now.grids) (left_of r.old)
-        ≡ read (grid_of (width_of kind.width) (whole_of r.old) g) (left_of r.new)) }
-    ensures bad { IfErr result (IsFaultOf (read_grid (width_of kind.width) p.now kind.step kind.level (newest_first earlier.now.grids) (left_of r.old))) }
+    ensures read { IfOk result (λ g. read_grid (form_of form.now) p.now kind.step kind.level (newest_first earlier.now.grids) (left_of reader.old)
+        ≡ read (grid_of (whole_of reader.old) g) (left_of reader.new)) }
+    ensures bad { IfErr result (IsFaultOf (read_grid (form_of form.now) p.now kind.step kind.level (newest_first earlier.now.grids) (left_of reader.old))) }
     ensures over { IfOk result (λ g. 0 < kind.level → IsOverParents earlier.now.below g.bx) }
-    ensures inside { IfOk result (IsInside (width_of kind.width) (whole_of r.old)) }
-    ensures small { IfOk result (HasSmallMasses (width_of kind.width) (whole_of r.old)) }
-    ensures whole { whole_of r.new ≡ whole_of r.old }
+    ensures masses { IfOk result (IsWhole (whole_of reader.old)) }
+    ensures whole { whole_of reader.new ≡ whole_of reader.old }
 {
-    let place = r.place() as u64;
-    let corners = read_corners(r)?;
+    let place = reader.place() as u64;
+    let corners = read_corners(reader)?;
     let Some(bx) = tested_box(p, kind.level, earlier, corners) else {
         return Err(CodecFault::Bad { place });
     };
-    let from = r.place();
-    read_masses(p, kind, bx.area(), r)?;
-    Ok(Grid { bx, from })
+    let masses = read_box_masses(alloc, p, form, kind, &bx, reader)?;
+    Ok(Grid { bx, masses })
 }
 
 /// No boxes of level `l`. Level 0 has one box, which is compared with none, and no level below. The least domain stands
@@ -105,22 +107,22 @@ fn none_of_level(alloc: Global, p: &Problem, l: u32) -> Result<Apart, NoMemory>
 pub(crate) fn read_grids(
     alloc: Global,
     p: &Problem,
+    form: &Form<'_>,
     kind: MassKind,
     count: u32,
-    r: &mut Reader<'_>,
+    reader: &mut Reader<'_>,
 ) -> Result<Vec<Grid>, CodecFault>
     requires step { kind.step ≤ 4096 }
     requires level { kind.level ≤ 4 }
-    ensures read { IfOk result (λ gs. read_grids (width_of kind.width) p.now kind.step kind.level count [] (left_of r.old)
-        ≡ read (map (grid_of (width_of kind.width) (whole_of r.old)) gs.items) (left_of r.new)) }
-    ensures bad { IfErr result (IsFaultOf (read_grids (width_of kind.width) p.now kind.step kind.level count [] (left_of r.old))) }
-    ensures inside { IfOk result (λ gs. All (IsInside (width_of kind.width) (whole_of r.old)) gs.items) }
-    ensures small { IfOk result (λ gs. All (HasSmallMasses (width_of kind.width) (whole_of r.old)) gs.items) }
-    ensures whole { whole_of r.new ≡ whole_of r.old }
+    ensures read { IfOk result (λ gs. read_grids (form_of form.now) p.now kind.step kind.level count [] (left_of reader.old)
+        ≡ read (map (grid_of (whole_of reader.old)) gs.items) (left_of reader.new)) }
+    ensures bad { IfErr result (IsFaultOf (read_grids (form_of form.now) p.now kind.step kind.level count [] (left_of reader.old))) }
+    ensures masses { IfOk result (λ gs. All (IsWhole (whole_of reader.old)) gs.items) }
+    ensures whole { whole_of reader.new ≡ whole_of reader.old }
 {
     let mut earlier = none_of_level(alloc, p, kind.level)?;
     for _k in 0..count {
-        let grid = read_grid(p, kind, &earlier, r)?;
+        let grid = read_grid(alloc, p, form, kind, &earlier, reader)?;
         earlier.push(grid)?;
     }
     Ok(earlier.into_grids())

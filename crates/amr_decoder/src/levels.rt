@@ -2,7 +2,7 @@
 
 ghost use Rattle.std.specs.Prelude.{◌≡◌, ◌^◌, ◌<◌, ◌≤◌, [], ◌∷◌, map, IfOk, IfErr};
 ghost use Rattle.std.specs.List.{All};
-ghost use Rattle.amr_codec.specs.MassWidths.{width_of};
+ghost use Rattle.amr_codec.specs.Forms.{form_of};
 ghost use Rattle.amr_def.specs.Domain.{domain, domain_box};
 ghost use Rattle.amr_def.specs.Facts.{IsAligned, IsLevel};
 ghost use Rattle.amr_def.specs.Limits.{between};
@@ -11,9 +11,9 @@ ghost use Rattle.amr_payload.specs.Payload.{level_cells};
 ghost use Rattle.amr_payload.specs.Tests.{is_box_count, read, read_level};
 ghost use Rattle.amr_start.specs.PatchBoxes.{IsChopped};
 ghost use Rattle.amr_decoder.specs.Faults.{IsFaultOf};
-ghost use Rattle.amr_decoder.specs.Grids.{HasSmallMasses, IsInside, grid_of};
+ghost use Rattle.amr_decoder.specs.Grids.{IsWhole, grid_of};
 ghost use Rattle.amr_decoder.specs.Lefts.{left_of};
-ghost use Rattle.amr_decoder.specs.ReadLevels.{IsReadLevel};
+ghost use Rattle.amr_decoder.specs.ReadLevels.{IsReadLevel, IsReadable};
 ghost use Rattle.amr_payload.specs.Tests as tests;
 
 use crate::faults::CodecFault;
@@ -23,6 +23,7 @@ use crate::made::make_level;
 use crate::masses::MassKind;
 use crate::reader::Reader;
 use amr_causes::NoMemory;
+use amr_codec::Form;
 use amr_def::Problem;
 use amr_patch::Level;
 use std::alloc::Global;
@@ -75,19 +76,18 @@ fn level_of_grids(
     grids: &[Grid],
 ) -> Result<Level, NoMemory>
     requires level { kind.level ≤ 4 }
-    requires read { IsReadLevel p.now kind.level (map (grid_of (width_of kind.width) bytes.now) grids.now) }
-    requires inside { All (IsInside (width_of kind.width) bytes.now) grids.now }
-    requires small { All (HasSmallMasses (width_of kind.width) bytes.now) grids.now }
-    ensures value { IfOk result (λ k. level_of k ≡ tests.level_of (map (grid_of (width_of kind.width) bytes.now) grids.now)) }
+    requires read { IsReadLevel p.now kind.level (map (grid_of bytes.now) grids.now) }
+    requires masses { All (IsWhole bytes.now) grids.now }
+    ensures value { IfOk result (λ k. level_of k ≡ tests.level_of (map (grid_of bytes.now) grids.now)) }
     ensures level { IfOk result (λ k. IsLevel p.now kind.level (level_of k)) }
     ensures base { IfOk result (λ k. kind.level ≡ 0 → (level_of k).boxes ≡ domain_box (domain p.now 0) ∷ []) }
     ensures aligned { IfOk result (λ k. 0 < kind.level → All (IsAligned p.now.blocking) (level_of k).boxes) }
     ensures chopped { IfOk result (IsChopped p.now.max_grid_size) }
 {
-    make_level(alloc, p.max_grid_size, kind.width, bytes, grids)
+    make_level(alloc, p.max_grid_size, bytes, grids)
 }
 
-/// Level `kind.level`: the number of its boxes, and the boxes with their masses, in patches of at most `max_grid_size`
+/// Level `kind.level`: the number of its boxes, and the boxes with their masses by a form, in patches of at most `max_grid_size`
 /// by `max_grid_size` cells. The reader then stands behind it. `Bad` is at the place of the first test that fails.
 /// Memory is taken only for boxes and masses that were read whole, whatever their number is said to be. Above level 0
 /// it is taken for two bits for each cell of the domain of the level below.
@@ -95,25 +95,27 @@ fn level_of_grids(
 pub fn read_level(
     alloc: Global,
     p: &Problem,
+    form: &Form<'_>,
     kind: MassKind,
-    r: &mut Reader<'_>,
+    reader: &mut Reader<'_>,
 ) -> Result<Level, CodecFault>
     requires step { kind.step ≤ 4096 }
     requires level { kind.level ≤ 4 }
-    ensures read { IfOk result (λ k. read_level (width_of kind.width) p.now kind.step kind.level (left_of r.old) ≡ read (level_of k) (left_of r.new)) }
-    ensures bad { IfErr result (IsFaultOf (read_level (width_of kind.width) p.now kind.step kind.level (left_of r.old))) }
+    requires form { IsReadable p.now kind.step kind.level (form_of form.now) }
+    ensures read { IfOk result (λ k. read_level (form_of form.now) p.now kind.step kind.level (left_of reader.old) ≡ read (level_of k) (left_of reader.new)) }
+    ensures bad { IfErr result (IsFaultOf (read_level (form_of form.now) p.now kind.step kind.level (left_of reader.old))) }
     ensures level { IfOk result (λ k. IsLevel p.now kind.level (level_of k)) }
     ensures base { IfOk result (λ k. kind.level ≡ 0 → (level_of k).boxes ≡ domain_box (domain p.now 0) ∷ []) }
     ensures aligned { IfOk result (λ k. 0 < kind.level → All (IsAligned p.now.blocking) (level_of k).boxes) }
     ensures chopped { IfOk result (IsChopped p.now.max_grid_size) }
 {
-    let place = r.place() as u64;
-    let count = r.read_u32()?;
+    let place = reader.place() as u64;
+    let count = reader.read_u32()?;
     if !is_box_count(p, kind.level, count) {
         return Err(CodecFault::Bad { place });
     }
-    let bytes = r.bytes();
-    let grids = read_grids(alloc, p, kind, count, r)?;
+    let bytes = reader.bytes();
+    let grids = read_grids(alloc, p, form, kind, count, reader)?;
     let level = level_of_grids(alloc, p, kind, bytes, &grids)?;
     Ok(level)
 }

@@ -3,8 +3,9 @@
 //! `amr_codec` has the encoders.
 //!
 //! - [`decode`], [`decode2`]: a whole payload, with masses of 8 or 4 bytes.
+//! - [`read_state`]: a state by itself, or on an older one.
 //! - [`Reader`]: the bytes that are left, number by number.
-//! - [`read_step`], [`read_rows`]: the step and the ledger.
+//! - [`read_step`], [`read_ledger`]: the step and the ledger.
 //! - [`read_level`]: a level's boxes, and their masses in patches.
 //! - [`stands_over`]: whether a level is nested in the one below it and in sync with it.
 //! - [`read_finer`], [`read_levels`]: a level over the one below it, and all levels.
@@ -12,6 +13,7 @@
 
 mod apart;
 mod boxes;
+mod changed;
 mod decoders;
 mod faults;
 mod fill;
@@ -27,10 +29,10 @@ mod stands;
 mod sync;
 mod totals;
 
-pub use decoders::{decode, decode2};
+pub use decoders::{decode, decode2, read_state};
 pub use faults::CodecFault;
 pub use finer::{read_finer, read_levels};
-pub use ledger::{read_rows, read_step};
+pub use ledger::{read_ledger, read_step};
 pub use levels::read_level;
 pub use masses::MassKind;
 pub use reader::Reader;

@@ -4,19 +4,17 @@ ghost use Rattle.std.specs.Prelude.{◌≡◌, ◌≤◌, cond, Some, None, map,
 ghost use Rattle.std.specs.List.{All};
 ghost use Rattle.amr_box.specs.declared.Cell.{Cell};
 ghost use Rattle.amr_box.specs.Cells.{in_boxes};
-ghost use Rattle.amr_codec.specs.MassWidths.{width_of};
 ghost use Rattle.amr_patch.specs.Levels.{level_of};
 ghost use Rattle.amr_patch.specs.Patches.{ArePairwiseApart, AreNear};
 ghost use Rattle.amr_payload.specs.Tests as tests;
 ghost use Rattle.amr_start.specs.PatchBoxes.{IsChopped};
 ghost use Rattle.amr_decoder.specs.Filled.{IsPlaced};
-ghost use Rattle.amr_decoder.specs.Grids.{HasSmallMasses, IsInside, boxes_of, grid_of};
+ghost use Rattle.amr_decoder.specs.Grids.{IsWhole, boxes_of, grid_of};
 
 use crate::fill::fill_boxes;
 use crate::grid::Grid;
 use amr_boxlist::BoxList;
 use amr_causes::NoMemory;
-use amr_codec::MassWidth;
 use amr_patch::Level;
 use std::alloc::Global;
 
@@ -54,7 +52,6 @@ fn blank_level(alloc: Global, grids: &[Grid], max: u32) -> Result<Level, NoMemor
 pub(crate) fn make_level(
     alloc: Global,
     max: u32,
-    width: MassWidth,
     bytes: &[u8],
     grids: &[Grid],
 ) -> Result<Level, NoMemory>
@@ -62,15 +59,14 @@ pub(crate) fn make_level(
     requires disjoint { ArePairwiseApart (boxes_of grids.now) }
     requires near { AreNear (boxes_of grids.now) }
     requires placed { All IsPlaced (boxes_of grids.now) }
-    requires inside { All (IsInside (width_of width) bytes.now) grids.now }
-    requires small { All (HasSmallMasses (width_of width) bytes.now) grids.now }
-    ensures level { IfOk result (λ l. level_of l ≡ tests.level_of (map (grid_of (width_of width) bytes.now) grids.now)) }
+    requires masses { All (IsWhole bytes.now) grids.now }
+    ensures level { IfOk result (λ l. level_of l ≡ tests.level_of (map (grid_of bytes.now) grids.now)) }
     ensures chopped { IfOk result (IsChopped max) }
 {
     let mut level = blank_level(alloc, grids, max)?;
     let order = level.order();
     let mut patches = level.take_patches();
-    fill_boxes(alloc, &mut patches, order, bytes, width, grids)?;
+    fill_boxes(alloc, &mut patches, order, bytes, grids)?;
     level.put_patches_in_order(patches, order);
     Ok(level)
 }

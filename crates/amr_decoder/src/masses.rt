@@ -14,11 +14,9 @@ use crate::reader::Reader;
 use amr_codec::MassWidth;
 use amr_def::Problem;
 
-/// How the masses of a level are read: how many bytes each takes, and the step and the level that bound them.
+/// What bounds the masses of a level: the step and the level.
 #[derive(Clone, Copy)]
 pub struct MassKind {
-    /// How many bytes a mass takes.
-    pub width: MassWidth,
     /// The step: 0 to 4096.
     pub step: u32,
     /// The level: 0 to 4.
@@ -47,23 +45,24 @@ fn greatest_mass(p: &Problem, kind: MassKind) -> u64
 /// Reads `count` masses, each of which is tested, in one pass over their bytes.
 pub(crate) fn read_masses(
     p: &Problem,
+    width: MassWidth,
     kind: MassKind,
     count: u64,
-    r: &mut Reader<'_>,
+    reader: &mut Reader<'_>,
 ) -> Result<(), CodecFault>
     requires step { kind.step ≤ 4096 }
     requires level { kind.level ≤ 4 }
-    ensures read { OnOk result (read_masses (width_of kind.width) p.now kind.step kind.level count (left_of r.old)
-        ≡ read (numbers (width_of kind.width) count (left_of r.old).bytes) (left_of r.new)) }
-    ensures bad { IfErr result (IsFaultOf (read_masses (width_of kind.width) p.now kind.step kind.level count (left_of r.old))) }
-    ensures inside { OnOk result ((left_of r.old).place + byte_len (width_of kind.width) * count ≤ length (whole_of r.old)) }
-    ensures small { OnOk result ((i : ℕ) → i < count → number_at (width_of kind.width) (left_of r.old).bytes i < 2 ^ 32) }
-    ensures whole { whole_of r.new ≡ whole_of r.old }
+    ensures read { OnOk result (read_masses (width_of width) p.now kind.step kind.level count (left_of reader.old)
+        ≡ read (numbers (width_of width) count (left_of reader.old).bytes) (left_of reader.new)) }
+    ensures bad { IfErr result (IsFaultOf (read_masses (width_of width) p.now kind.step kind.level count (left_of reader.old))) }
+    ensures inside { OnOk result ((left_of reader.old).place + byte_len (width_of width) * count ≤ length (whole_of reader.old)) }
+    ensures small { OnOk result ((i : ℕ) → i < count → number_at (width_of width) (left_of reader.old).bytes i < 2 ^ 32) }
+    ensures whole { whole_of reader.new ≡ whole_of reader.old }
 {
     let greatest = greatest_mass(p, kind);
-    let passed = r.pass_masses(kind.width, count, greatest);
+    let passed = reader.pass_masses(width, count, greatest);
     if passed < count {
-        let place = r.place() as u64;
+        let place = reader.place() as u64;
         return Err(CodecFault::Bad { place });
     }
     Ok(())

@@ -1,5 +1,5 @@
 -- What a disk in memory shows. (profile)
-use Rattle.std.specs.Prelude.{ℕ, ◌+◌, ◌&&◌, nat_le, nat_lt, Bool, List, length, Option, Some, vec_len}
+use Rattle.std.specs.Prelude.{ℕ, ◌≡◌, ◌+◌, ◌&&◌, nat_le, nat_lt, Bool, List, length, Option, Some, vec_len}
 use Rattle.amr_disk.specs.Calls.{Call, LeavesAt}
 use Rattle.amr_disk.specs.Limits.{Limits}
 use Rattle.amr_disk.specs.Log.{calls_of}
@@ -15,6 +15,11 @@ asked_of disk = disk.asked
 -- what it was made with
 abbrev pub made_of : MemDisk → List ℕ
 made_of disk = disk.made.items
+
+-- what it was made with stays: its limits and its first bytes
+pub record StaysAsMade (old new : MemDisk) : Type 0 where
+  pub limits : limits_of new ≡ limits_of old
+  pub made : made_of new ≡ made_of old
 
 -- the writes and syncs that it took
 abbrev pub calls_in : MemDisk → List Call

@@ -216,7 +216,7 @@ impl MemDisk {
 }
 
 impl Disk for MemDisk {
-    ghost use Rattle.amr_disk.specs.Memory.{limits_of, asked_of, made_of, calls_in, seen_of, moment_of, leaves_of, faults_of};
+    ghost use Rattle.amr_disk.specs.Memory.{StaysAsMade, limits_of, asked_of, made_of, calls_in, seen_of, moment_of, leaves_of, faults_of};
     ghost use Rattle.amr_disk.specs.Replay.{reads_image};
 
     ghost seen = { seen_of };
@@ -241,8 +241,7 @@ impl Disk for MemDisk {
         ensures answer { is_ok result ≡ not (is_refused (limits_of self.old) (asked_of self.new)) }
         ensures counted { asked_of self.new ≡ min (asked_of self.old + 1) (2 ^ 64 - 1) }
         ensures calls { calls_in self.new ≡ calls_in self.old }
-        ensures limits { limits_of self.new ≡ limits_of self.old }
-        ensures made { made_of self.new ≡ made_of self.old }
+        ensures made { StaysAsMade self.old self.new }
         ensures replayed { seen_of self.new ≡ Some (seen_after (made_of self.new) (calls_in self.new)) }
     {
         if self.refuses() {
@@ -266,8 +265,7 @@ impl Disk for MemDisk {
             (not (is_refused (limits_of self.old) (asked_of self.new)) && has_room (limits_of self.old) (calls_in self.old) at bytes.now) }
         ensures counted { asked_of self.new ≡ min (asked_of self.old + 1) (2 ^ 64 - 1) }
         ensures calls { calls_in self.new ≡ with_write (limits_of self.old) (calls_in self.old) at bytes.now }
-        ensures limits { limits_of self.new ≡ limits_of self.old }
-        ensures made { made_of self.new ≡ made_of self.old }
+        ensures made { StaysAsMade self.old self.new }
         ensures replayed { seen_of self.new ≡ Some (seen_after (made_of self.new) (calls_in self.new)) }
     {
         let refused = self.refuses();
@@ -288,8 +286,7 @@ impl Disk for MemDisk {
         ensures answer { is_ok result ≡ (not (is_refused (limits_of self.old) (asked_of self.new)) && has_call (limits_of self.old) (calls_in self.old)) }
         ensures counted { asked_of self.new ≡ min (asked_of self.old + 1) (2 ^ 64 - 1) }
         ensures calls { calls_in self.new ≡ (if is_ok result then calls_in self.old ++ Synced ∷ [] else calls_in self.old) }
-        ensures limits { limits_of self.new ≡ limits_of self.old }
-        ensures made { made_of self.new ≡ made_of self.old }
+        ensures made { StaysAsMade self.old self.new }
         ensures replayed { seen_of self.new ≡ Some (seen_after (made_of self.new) (calls_in self.new)) }
     {
         if self.refuses() {

@@ -1,6 +1,8 @@
 //! What is called after each step of a run.
 
-ghost use Rattle.std.specs.Prelude.{◌≡◌, ◌<◌, ◌++◌, ◌∷◌, [], false, List, Result, Ok, OnOk};
+ghost use Rattle.std.specs.Prelude.{◌≡◌, ◌<◌, ◌++◌, ◌∷◌, [], ℕ, false, List, Result, Ok, OnOk};
+ghost use Rattle.amr_def.specs.declared.problem.Problem.{Problem};
+ghost use Rattle.amr_def.specs.Run.{finish};
 ghost use Rattle.amr_def.specs.State.{State};
 ghost use Rattle.amr_patch.specs.Meshes.{is_spent, state_of};
 
@@ -11,7 +13,7 @@ use std::convert::Infallible;
 ///
 /// An implementation says what it does by three meanings, of which the third has two laws.
 /// - `ready`: a condition on itself and a state. A call asks it of the state that is handed in, and one that is done keeps it for
-///   later states.
+///   later states of a run.
 /// - `answers`: the relation of one call, between itself before, the state, the answer and itself after.
 /// - `made`: the relation of several calls, between itself before the first, the states in their order, the last answer and itself
 ///   after the last. It holds of no states (`made_none`). Where it holds with `Ok`, a further call adds its state and its answer
@@ -31,7 +33,8 @@ pub trait AfterStep {
         requires whole { is_spent mesh.now ≡ false }
         requires ready { ready self.old (state_of mesh.now) }
         ensures answer { answers self.old (state_of mesh.now) result self.new }
-        ensures ready { OnOk result ((s : State) → (state_of mesh.now).step < s.step → ready self.old s → ready self.new s) };
+        ensures ready { OnOk result ((p : Problem) (k : ℕ) → (state_of mesh.now).step < k → ready self.old (finish p (state_of mesh.now) k)
+            → ready self.new (finish p (state_of mesh.now) k)) };
 
     ghost made_none: { (a : Self) → made a [] (Ok tt) a };
 

@@ -2,14 +2,14 @@
 
 ghost use Rattle.std.specs.Prelude.{◌≡◌, ◌⊎◌, ◌+◌, ◌-◌, ◌<◌, ◌≤◌, ℕ, false, true, Ok, Err, OnOk, IsErrOf};
 ghost use Rattle.std.specs.List.{All};
+ghost use Rattle.amr_def.specs.declared.problem.Problem.{Problem};
 ghost use Rattle.amr_def.specs.Facts.{IsSound};
 ghost use Rattle.amr_def.specs.Run.{finish, next};
-ghost use Rattle.amr_def.specs.State.{State};
 ghost use Rattle.amr_patch.specs.Meshes.{is_spent, levels_of, state_of};
 ghost use Rattle.amr_start.specs.PatchBoxes.{IsChopped};
 ghost use Rattle.amr_advance.specs.Crews.{MayRun};
 ghost use Rattle.amr_cycle.specs.Cycles.{AreCoarsenableAbove};
-ghost use Rattle.amr_cycle.specs.Kept.{IsCurrent, IsKeptFor};
+ghost use Rattle.amr_cycle.specs.Kept.{IsKeptFor};
 ghost use Rattle.amr_drive.specs.Drives.{HasDriven, MayDrive};
 ghost use Rattle.amr_drive.specs.States.{states_after};
 
@@ -59,8 +59,7 @@ fn make_step<R: Threads + Wait + Sync, G: Gate + Sync, A: AfterStep>(
     requires to_come { (state_of mesh.old).step < run.now.job.problem.now.steps }
     requires coarsenable { AreCoarsenableAbove (levels_of mesh.old) }
     requires ready { A.ready after.old (next run.now.job.problem.now (state_of mesh.old)) }
-    requires kept { IsKeptFor run.now.job.problem.now kept.old }
-    requires current { IsCurrent (state_of mesh.old).levels kept.old }
+    requires kept { IsKeptFor run.now.job.problem.now (state_of mesh.old).levels kept.old }
     requires crew { (tasks : ℕ) → MayRun G.admits run.now.job.problem.now tasks workers.old }
     ensures workers { workers.new ≡ workers.old }
     ensures value { OnOk result (state_of mesh.new ≡ next run.now.job.problem.now (state_of mesh.old)) }
@@ -69,9 +68,9 @@ fn make_step<R: Threads + Wait + Sync, G: Gate + Sync, A: AfterStep>(
     ensures coarsenable { is_spent mesh.new ≡ false → AreCoarsenableAbove (levels_of mesh.new) }
     ensures whole { OnOk result (is_spent mesh.new ≡ false) }
     ensures answer { OnOk result (A.answers after.old (next run.now.job.problem.now (state_of mesh.old)) (Ok tt) after.new) }
-    ensures ready { OnOk result ((s : State) → (next run.now.job.problem.now (state_of mesh.old)).step < s.step → A.ready after.old s → A.ready after.new s) }
-    ensures kept { OnOk result (IsKeptFor run.now.job.problem.now kept.new) }
-    ensures current { OnOk result (IsCurrent (state_of mesh.new).levels kept.new) }
+    ensures ready { OnOk result ((p : Problem) (k : ℕ) → let s = next run.now.job.problem.now (state_of mesh.old) in
+        s.step < k → A.ready after.old (finish p s k) → A.ready after.new (finish p s k)) }
+    ensures kept { OnOk result (IsKeptFor run.now.job.problem.now (state_of mesh.new).levels kept.new) }
     ensures refused { (f : _) → IsErrOf result (DriveFault.After f) → (state_of mesh.new ≡ next run.now.job.problem.now (state_of mesh.old))
         × (is_spent mesh.new ≡ false) × A.answers after.old (next run.now.job.problem.now (state_of mesh.old)) (Err f) after.new }
     ensures memory { IsErrOf result DriveFault.NoMemory → (after.new ≡ after.old)

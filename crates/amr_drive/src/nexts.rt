@@ -9,7 +9,7 @@ ghost use Rattle.amr_patch.specs.Meshes.{is_spent, levels_of, state_of};
 ghost use Rattle.amr_start.specs.PatchBoxes.{IsChopped};
 ghost use Rattle.amr_advance.specs.Crews.{MayRun};
 ghost use Rattle.amr_cycle.specs.Cycles.{AreCoarsenableAbove};
-ghost use Rattle.amr_cycle.specs.Kept.{IsCurrent, IsKeptFor};
+ghost use Rattle.amr_cycle.specs.Kept.{IsKeptFor};
 
 use amr_advance::Workers;
 use amr_causes::NoMemory;
@@ -30,7 +30,7 @@ fn is_due(p: &Problem, number: u32) -> bool
     number > 0 && number % p.regrid_int == 0
 }
 
-/// Regrids a mesh where that is due, in so many threads, and tells so to what steps keep. One level alone stays as it is. After
+/// Regrids a mesh where that is due, in so many threads, and has what steps keep of its masses forgotten. One level alone stays as it is. After
 /// `NoMemory` the mesh has the state of before.
 #[tactic(auto, using(crate::proofs::NextStates::alone_is))]
 fn regrid_if_due<R: Threads + Sync>(
@@ -44,21 +44,19 @@ fn regrid_if_due<R: Threads + Sync>(
     requires whole { is_spent mesh.old ≡ false }
     requires sound { IsSound p.now (state_of mesh.old) }
     requires coarsenable { AreCoarsenableAbove (levels_of mesh.old) }
-    requires kept { IsKeptFor p.now kept.old }
-    requires current { IsCurrent (state_of mesh.old).levels kept.old }
+    requires kept { IsKeptFor p.now (state_of mesh.old).levels kept.old }
     ensures value { OnOk result (state_of mesh.new ≡ cond (regrid_is_due p.now (state_of mesh.old)) (regrid p.now (state_of mesh.old)) (state_of mesh.old)) }
     ensures sound { OnOk result (IsSound p.now (state_of mesh.new)) }
     ensures patches { All (IsChopped p.now.max_grid_size) (levels_of mesh.old) → All (IsChopped p.now.max_grid_size) (levels_of mesh.new) }
     ensures coarsenable { AreCoarsenableAbove (levels_of mesh.new) }
-    ensures kept { OnOk result (IsKeptFor p.now kept.new) }
-    ensures current { OnOk result (IsCurrent (state_of mesh.new).levels kept.new) }
+    ensures kept { OnOk result (IsKeptFor p.now (state_of mesh.new).levels kept.new) }
     ensures whole { is_spent mesh.new ≡ false }
     ensures refused { OnErr result (state_of mesh.new ≡ state_of mesh.old) }
 {
     let number = mesh.step();
     if p.max_level > 0 && is_due(p, number) {
         regrid_in_threads(rt, threads, alloc, p, mesh)?;
-        kept.masses_changed();
+        kept.forget_masses();
     }
     Ok(())
 }
@@ -83,8 +81,7 @@ pub(crate) fn make_next<R: Threads + Wait + Sync, G: Gate + Sync>(
     requires sound { IsSound run.now.job.problem.now (state_of mesh.old) }
     requires to_come { (state_of mesh.old).step < run.now.job.problem.now.steps }
     requires coarsenable { AreCoarsenableAbove (levels_of mesh.old) }
-    requires kept { IsKeptFor run.now.job.problem.now kept.old }
-    requires current { IsCurrent (state_of mesh.old).levels kept.old }
+    requires kept { IsKeptFor run.now.job.problem.now (state_of mesh.old).levels kept.old }
     requires crew { (tasks : ℕ) → MayRun G.admits run.now.job.problem.now tasks workers.old }
     ensures workers { workers.new ≡ workers.old }
     ensures value { OnOk result (state_of mesh.new ≡ next run.now.job.problem.now (state_of mesh.old)) }
@@ -93,8 +90,7 @@ pub(crate) fn make_next<R: Threads + Wait + Sync, G: Gate + Sync>(
         → All (IsChopped run.now.job.problem.now.max_grid_size) (levels_of mesh.new) }
     ensures coarsenable { is_spent mesh.new ≡ false → AreCoarsenableAbove (levels_of mesh.new) }
     ensures whole { OnOk result (is_spent mesh.new ≡ false) }
-    ensures kept { OnOk result (IsKeptFor run.now.job.problem.now kept.new) }
-    ensures current { OnOk result (IsCurrent (state_of mesh.new).levels kept.new) }
+    ensures kept { OnOk result (IsKeptFor run.now.job.problem.now (state_of mesh.new).levels kept.new) }
     ensures refused { OnErr result ((is_spent mesh.new ≡ true) ⊎ ((is_spent mesh.new ≡ false) × (state_of mesh.new ≡ state_of mesh.old))) }
 {
     regrid_if_due(

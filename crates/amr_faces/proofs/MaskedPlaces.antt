@@ -1,12 +1,12 @@
 -- Where the sizes stand that are handed in for masked faces, and sizes that are those of the flows by the values.
-use Rattle.std.proofs.Common.{◌≡◌, ℕ, zero, suc, ◌+◌, ◌-◌, ◌*◌, ◌/◌, ◌^◌, ◌<◌, ◌≤◌, ◌⊎◌, inl, inr, Bool, true, false, ℤ, pos, negsuc, ◌+ℤ◌, ◌-ℤ◌, ◌≤ℤ◌, List, [], ◌∷◌, ◌++◌, length, length-append, get_or, refl, sym, ap, ◌∙◌, arith}
+use Rattle.std.proofs.Common.{◌≡◌, ℕ, zero, suc, ◌+◌, ◌-◌, ◌*◌, ◌/◌, ◌<◌, ◌≤◌, ◌⊎◌, inl, inr, Bool, true, false, ℤ, pos, negsuc, ◌-ℤ◌, List, [], ◌∷◌, ◌++◌, length, length-append, get_or, refl, sym, ap, ◌∙◌, arith}
 use Rattle.std.specs.Prelude.{cond, neg_ℤ, slice_index, unsigned_abs}
 use Rattle.std.specs.List.{All}
 use Rattle.std.proofs.lemmas.Int.{ints}
 use Rattle.std.proofs.lemmas.Bool.{cases_lt}
 use Rattle.std.proofs.Math.ListN.{get_or-append}
 use Rattle.std.proofs.lemmas.List.{get_or-append_right, get_or-append-add}
-use Rattle.std.proofs.lemmas.List.Elements.{All-append, All-get_or}
+use Rattle.std.proofs.lemmas.List.Elements.{All-append}
 use Rattle.amr_box.specs.declared.Cell.{Cell}
 use Rattle.amr_box.specs.declared.Face.{Face}
 use Rattle.amr_box.specs.declared.Axis.{Axis}
@@ -21,11 +21,10 @@ use Rattle.amr_patch.specs.declared.patches.Patch.{Patch}
 use Rattle.amr_patch.specs.Places.{is_face_of}
 use Rattle.amr_patch.specs.Patches.{box, value_in}
 use Rattle.amr_patch.proofs.Rows.{sides}
-use Rattle.amr_faces.specs.Faces.{flux_beside, fluxes_by, in_reach, is_masked, masked_faces, masked_place, passing, x_end, y_end}
-use Rattle.amr_faces.specs.Shares.{AreSmall, signed}
+use Rattle.amr_faces.specs.Faces.{flux_beside, fluxes_by, is_masked, masked_faces, masked_place, passing, x_end, y_end}
+use Rattle.amr_faces.specs.Shares.{signed}
 use Rattle.amr_faces.proofs.Masked.{by_size, by_values, masked_of_box, x_inner, y_inner}
 use Rattle.amr_faces.proofs.Places.{IsXFace, IsYFace, offset, x_face_at, y_face_at}
-use Rattle.amr_faces.proofs.Small.{beside_small}
 
 -- ---- the place of a border face
 
@@ -168,17 +167,6 @@ module _ (p : Problem) (l : ℕ) (q : Patch) (mask : List Bool) (border : List �
 
   pub by_beside : (c : Cell) → net (fluxes_by p l q mask border) c ≡ net (flux_beside p l q) c
   by_beside c = λ i. net (λ f. all_by_values f i) c
-
-  pub sizes_small : ((c : Cell) → in_reach (box q) c ≡ true → value_in q c < 2 ^ 31) → AreSmall border
-  sizes_small small = record {
-    at = λ k lt.
-        let f = get_or (masked_faces (box q) mask) k no_face in
-        let e = All-get_or (λ f. is_masked (box q) mask f ≡ true) (masked_faces (box q) mask) k no_face (omega (arith, lt, count)) (masked_all (box q) mask) in
-        omega (arith, sizes k no_face lt, beside_small p l q small f (masked_of_box (box q) mask f e));
-  }
-    where
-      no_face : Face
-      no_face = face X (pos 0) (pos 0)
 
 pub masked_face_of_box : (b : Extent) (mask : List Bool) (k : ℕ) (f : Face) → k < length (masked_faces b mask) → is_face_of b (get_or (masked_faces b mask) k f) ≡ true
 masked_face_of_box b mask k f lt = masked_of_box b mask (get_or (masked_faces b mask) k f) (masked_all b mask k f lt)

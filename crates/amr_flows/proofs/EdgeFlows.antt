@@ -1,10 +1,8 @@
 -- What a layout has a patch add flows through faces on the patch's edges.
-use Rattle.std.proofs.Common.{◌≡◌, ℕ, ◌<◌, Bool, true, pos, ◌+ℤ◌, List, ◌++◌, map, refl, arith}
+use Rattle.std.proofs.Common.{◌≡◌, ℕ, ◌<◌, true, pos, ◌+ℤ◌, refl, arith}
 use Rattle.std.specs.List.{All}
 use Rattle.std.proofs.lemmas.Int.{ints}
 use Rattle.std.proofs.lemmas.Bool.{and_from, or_left, or_right}
-use Rattle.std.proofs.lemmas.List.Elements.{All-append}
-use Rattle.amr_box.specs.declared.Face.{Face}
 use Rattle.amr_box.specs.Cells.{Extent, IsNear}
 use Rattle.amr_box.proofs.CellLists.{int_eq-itself}
 use Rattle.amr_box.proofs.Numbers.{is_between}
@@ -13,9 +11,9 @@ use Rattle.amr_patch.proofs.Rows.{sides}
 use Rattle.amr_faces.specs.Faces.{passing}
 use Rattle.amr_layout.specs.Surroundings.{Around, edge_count, edge_face}
 use Rattle.amr_layout.specs.declared.FlowTo.{FlowTo}
-use Rattle.amr_layout.specs.Adds.{flow_to, flows_of, inflow_faces, is_exchange_face, is_inflow_face, is_outflow_face, outflow_faces, register_flows, word_of}
+use Rattle.amr_layout.specs.Adds.{flow_to, flows_of, goes_on, word_of}
 use Rattle.amr_layout.proofs.Edges.{on_each_side}
-use Rattle.amr_flows.proofs.EdgePuts.{all_images, all_passing}
+use Rattle.amr_layout.proofs.Planned.{all_images, all_passing}
 
 -- ---- the faces on the edges of a box
 
@@ -32,19 +30,8 @@ edges_on b n near there =
 -- ---- flows
 
 module _ (s : Around) (b : Extent) (near : IsNear b) where
-  abbrev OnEdge : FlowTo → Type 0
-  OnEdge x = is_edge_face b x.face ≡ true
-
-  of : (test : Face → Bool) → All (λ f. is_edge_face b f ≡ true) (passing test (edge_face b) (edge_count b))
-  of test = all_passing (λ f. is_edge_face b f ≡ true) test (edge_face b) (edge_count b) (λ n lt t. edges_on b n near lt)
-
-  pub flows_on_edges : All OnEdge (flows_of s b)
-  unfolding flows_of inflow_faces outflow_faces register_flows
+  pub flows_on_edges : All (λ (x : FlowTo). is_edge_face b x.face ≡ true) (flows_of s b)
+  unfolding flows_of
   flows_on_edges =
-      let faces : (Face → Bool) → List Face = λ test. passing test (edge_face b) (edge_count b) in
-      let to : Face → FlowTo = λ f. record { word = word_of s b f; face = f } in
-      All-append OnEdge (map (flow_to 0) (faces (is_inflow_face s b))) (map (flow_to 1) (faces (is_outflow_face s b)) ++ map to (faces (is_exchange_face s b)))
-      (all_images (flow_to 0) OnEdge (faces (is_inflow_face s b)) (of (is_inflow_face s b)))
-      (All-append OnEdge (map (flow_to 1) (faces (is_outflow_face s b))) (map to (faces (is_exchange_face s b)))
-      (all_images (flow_to 1) OnEdge (faces (is_outflow_face s b)) (of (is_outflow_face s b)))
-      (all_images to OnEdge (faces (is_exchange_face s b)) (of (is_exchange_face s b))))
+      all_images (λ f. flow_to (word_of s b f) f) (λ x. is_edge_face b x.face ≡ true) (passing (goes_on s b) (edge_face b) (edge_count b))
+      (all_passing (λ f. is_edge_face b f ≡ true) (goes_on s b) (edge_face b) (edge_count b) (λ n lt t. edges_on b n near lt))

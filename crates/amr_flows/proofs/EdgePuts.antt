@@ -1,10 +1,10 @@
 -- What a layout has a patch put flows through faces on the patch's edges.
-use Rattle.std.proofs.Common.{◌≡◌, ◌∙◌, ℕ, zero, suc, ◌+◌, ◌<◌, ◌≤◌, Bool, true, false, cond, ◌⊎◌, inl, inr, ℤ, pos, negsuc, ◌+ℤ◌, ◌≤ℤ◌, ◌<ℤ◌, List, [], ◌∷◌, length, map, refl, ap, subst, arith}
+use Rattle.std.proofs.Common.{◌≡◌, ◌∙◌, ℕ, zero, suc, ◌+◌, ◌<◌, ◌≤◌, Bool, true, false, ◌⊎◌, inl, inr, ℤ, pos, negsuc, ◌+ℤ◌, ◌≤ℤ◌, ◌<ℤ◌, List, [], ◌∷◌, length, map, refl, ap, subst, arith}
 use Rattle.std.specs.Prelude.{IsTrue, slice_index_or}
 use Rattle.std.specs.List.{All, filter, flat_map}
 use Rattle.std.proofs.lemmas.Int.{ints}
 use Rattle.std.proofs.lemmas.Bool.{and_from, cases_lt, or_left}
-use Rattle.std.proofs.lemmas.List.Elements.{All-append, All-cons, All-filter, All-nil, filter_passes}
+use Rattle.std.proofs.lemmas.List.Elements.{All-append, All-filter, filter_passes}
 use Rattle.amr_box.specs.declared.Cell.{Cell}
 use Rattle.amr_box.specs.declared.Face.{Face}
 use Rattle.amr_box.specs.declared.Axis.TheVariants.{X, Y}
@@ -25,6 +25,7 @@ use Rattle.amr_faces.specs.Faces.{IsInDomain, passing, x_end, y_end}
 use Rattle.amr_register.proofs.CollectLaws.{column_high, row_high}
 use Rattle.amr_register.proofs.Homes.{HasSize, size_at, within_domain}
 use Rattle.amr_layout.specs.declared.PutAt.{PutAt}
+use Rattle.amr_layout.proofs.Planned.{all_images, all_parts, all_passing}
 use Rattle.amr_layout.specs.Places.{borders_of, holder_of, home_face, leads_on, level_borders, placed, puts_of}
 
 -- ---- lists
@@ -32,27 +33,10 @@ use Rattle.amr_layout.specs.Places.{borders_of, holder_of, home_face, leads_on, 
 pub all_filtered : {A : Type 0} (test : A → Bool) (P : A → Type 0) (xs : List A) → All (λ x. test x ≡ true → P x) xs → All P (filter test xs)
 all_filtered test P xs h k d lt = All-filter test (λ x. test x ≡ true → P x) xs h k d lt (filter_passes test xs k d lt)
 
-pub all_images : {A B : Type 0} (f : A → B) (P : B → Type 0) (xs : List A) → All (λ x. P (f x)) xs → All P (map f xs)
-all_images f P [] h = All-nil P
-all_images f P (x ∷ xs) h = All-cons P (f x) (map f xs) (h 0 x (omega arith)) (all_images f P xs (λ k d lt. h (suc k) d (omega arith)))
-
-pub all_parts : {A B : Type 0} (f : A → List B) (P : B → Type 0) (xs : List A) → All (λ x. All P (f x)) xs → All P (flat_map f xs)
-all_parts f P [] h = All-nil P
-all_parts f P (x ∷ xs) h = All-append P (f x) (flat_map f xs) (h 0 x (omega arith)) (all_parts f P xs (λ k d lt. h (suc k) d (omega arith)))
-
 all_placed : (P : Face → Type 0) (n : ℕ) (fs : List Face) → All P fs → All (λ (u : PutAt). P u.face) (placed n fs)
 all_placed P n [] h k d lt = absurd (omega arith)
 all_placed P n (f ∷ fs) h zero d lt = h 0 f (omega arith)
 all_placed P n (f ∷ fs) h (suc k) d lt = all_placed P (suc n) fs (λ j e l. h (suc j) e (omega arith)) k d (omega arith)
-
-one_passing : (P : Face → Type 0) (t : Bool) (f : Face) → (t ≡ true → P f) → All P (cond t (f ∷ []) [])
-one_passing P true f h zero d lt = h refl
-one_passing P true f h (suc k) d lt = absurd (omega arith)
-one_passing P false f h k d lt = absurd (omega arith)
-
-pub all_passing : (P : Face → Type 0) (test : Face → Bool) (g : ℕ → Face) (n : ℕ) → ((j : ℕ) → j < n → test (g j) ≡ true → P (g j)) → All P (passing test g n)
-all_passing P test g zero h = All-nil P
-all_passing P test g (suc n) h = All-append P (passing test g n) (cond (test (g n)) (g n ∷ []) []) (all_passing P test g n (λ j lt. h j (omega arith))) (one_passing P (test (g n)) (g n) (h n (omega arith)))
 
 -- ---- a face that stands for one at the high side of a patch lies on the low edge of the patch that owns it
 

@@ -1,5 +1,5 @@
 -- The faces at the high side of a box.
-use Rattle.std.proofs.Common.{◌≡◌, ℕ, ◌<◌, true, false, pos, ◌+ℤ◌, ◌≤ℤ◌, arith}
+use Rattle.std.proofs.Common.{◌≡◌, ℕ, false, pos, ◌+ℤ◌, ◌≤ℤ◌, arith}
 use Rattle.std.proofs.lemmas.Int.{ints}
 use Rattle.std.proofs.lemmas.Bool.{false_from_ne_true}
 use Rattle.amr_box.specs.Cells.{Extent, holds}

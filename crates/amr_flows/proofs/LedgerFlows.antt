@@ -20,7 +20,8 @@ use Rattle.amr_layout.specs.Surroundings.{Around, edge_count, edge_face}
 use Rattle.amr_layout.specs.Adds.{flows_of, word_total}
 use Rattle.amr_flows.specs.Words.{level_total}
 use Rattle.amr_flows.specs.Laws.{ArePatchesOf, InflowIsOfLevel, OutflowIsOfLevel, plain_size}
-use Rattle.amr_flows.proofs.LedgerFlowsSums.{cells_total, sum_none, total_add, total_each}
+use Rattle.amr_layout.proofs.Totals.{total_add, total_each}
+use Rattle.amr_flows.proofs.LedgerFlowsSums.{cells_total, sum_none}
 use Rattle.amr_flows.proofs.LedgerFlowsWays.{IsWay, is_in, is_out, way_in, way_out}
 use Rattle.amr_flows.proofs.LedgerFlowsOpen.{placed}
 use Rattle.amr_flows.proofs.LedgerFlowsSides.{side_flow, way_size}

@@ -1,8 +1,8 @@
 -- What the edges of one box add to the ledger, as sums over the four sides of the domain.
-use Rattle.std.proofs.Common.{◌≡◌, ℕ, ◌+◌, ◌*◌, ◌<◌, ◌≤◌, ◌==◌, Bool, true, false, cond, ℤ, pos, ◌-ℤ◌, ◌++◌, map, refl, ap, ◌∙◌, arith}
-use Rattle.std.specs.Prelude.{int_lt, unsigned_abs}
+use Rattle.std.proofs.Common.{◌≡◌, ℕ, ◌+◌, ◌<◌, ◌≤◌, ◌&&◌, Bool, true, cond, ℤ, pos, ◌-ℤ◌, ap, ◌∙◌, arith}
+use Rattle.std.specs.Prelude.{unsigned_abs}
 use Rattle.std.proofs.lemmas.Int.{ints}
-use Rattle.std.proofs.lemmas.Bool.{false_from_ne_true, ne_eqb}
+use Rattle.std.proofs.lemmas.Bool.{false_from_ne_true}
 use Rattle.amr_box.specs.declared.Cell.{Cell}
 use Rattle.amr_box.specs.declared.Face.{Face}
 use Rattle.amr_box.specs.declared.Axis.TheVariants.{X, Y}
@@ -12,10 +12,13 @@ use Rattle.amr_def.specs.State.{Masses}
 use Rattle.amr_def.specs.Flux.{Fluxes, face, flux_at}
 use Rattle.amr_def.specs.Ledger.{sum_to}
 use Rattle.amr_patch.proofs.Rows.{inside}
-use Rattle.amr_faces.specs.Faces.{passing, x_end, y_end}
+use Rattle.amr_faces.specs.Faces.{x_end, y_end}
 use Rattle.amr_layout.specs.Surroundings.{Around, edge_count, edge_face, inward, x_start, y_start}
-use Rattle.amr_layout.specs.Adds.{cell_beyond, flow_to, flows_of, inflow_faces, is_exchange_face, is_inflow_face, is_outflow_face, number_of, outflow_faces, register_flows, size_to, word_of, word_total}
-use Rattle.amr_flows.proofs.LedgerFlowsSums.{sum_edges, sum_run, total_append, total_image, total_none, total_passing}
+use Rattle.amr_layout.specs.Adds.{flows_of, is_ledger_face, word_total}
+use Rattle.amr_flows.specs.Layouts.{goes_to}
+use Rattle.amr_laws.proofs.Sides.{sum_same}
+use Rattle.amr_flows.proofs.LedgerFlowsSums.{sum_edges, sum_run}
+use Rattle.amr_flows.proofs.WordSums.{each_once, to_inflow, to_outflow}
 use Rattle.amr_flows.proofs.LedgerFlowsWays.{IsWay, is_in, is_out}
 use Rattle.amr_flows.proofs.LedgerFlowsOpen.{IsPlaced}
 use Rattle.amr_flows.proofs.LedgerFlowsSides.{east_face, north_face, side_flow, south_face, way_size, west_face}
@@ -70,45 +73,19 @@ module _ (s : Around) (m old : Masses) (sign : ℤ → Bool) (low high : ℤ →
 
 -- ---- the words of the ledger
 
-register_word : (t : Bool) (n w : ℕ) → w < 2 → (cond t (2 + 2 * n) (3 + 2 * n) == w) ≡ false
-register_word true n w lt = ne_eqb (2 + 2 * n) w (λ e. omega (arith, e, lt))
-register_word false n w lt = ne_eqb (3 + 2 * n) w (λ e. omega (arith, e, lt))
-
 module _ (s : Around) (m old : Masses) (b : Extent) where
-  abbrev size : Face → ℕ
-  size f = unsigned_abs (flux_at s.problem s.level m old f)
+  abbrev e : Fluxes
+  e = flux_at s.problem s.level m old
 
-  no_register : (w : ℕ) → w < 2 → (f : Face) → size_to size w (flow_to (word_of s b f) f) ≡ 0
-  unfolding word_of
-  no_register w lt f = ap (λ (t : Bool). cond t (size f) 0) (register_word (int_lt (inward s.problem s.level b f) (pos 0)) (number_of s.cells (cell_beyond s b f)) w lt)
+  to_word : (sign : ℤ → Bool) (word : ℕ) → ((f : Face) → goes_to s b word f ≡ (is_ledger_face s b f && sign (inward s.problem s.level b f)))
+      → word_total (λ f. unsigned_abs (e f)) word (flows_of s b) ≡ sum_to (λ n. way_size s e sign b (edge_face b n)) (edge_count b)
+  to_word sign word goes =
+      each_once s b (λ f. unsigned_abs (e f)) word
+      ∙ sum_same (λ n. cond (goes_to s b word (edge_face b n)) (unsigned_abs (e (edge_face b n))) 0) (λ n. way_size s e sign b (edge_face b n)) (edge_count b)
+      (λ n lt. ap (λ t. cond t (unsigned_abs (e (edge_face b n))) 0) (goes (edge_face b n)))
 
-  registers_none : (w : ℕ) → w < 2 → word_total size w (register_flows s b) ≡ 0
-  unfolding register_flows
-  registers_none w lt =
-      let faces = passing (is_exchange_face s b) (edge_face b) (edge_count b) in
-      total_image (size_to size w) (λ f. flow_to (word_of s b f) f) (λ f. 0) (no_register w lt) faces ∙ total_none faces
+  pub first_word : word_total (λ f. unsigned_abs (e f)) 0 (flows_of s b) ≡ sum_to (λ n. way_size s (flux_at s.problem s.level m old) is_in b (edge_face b n)) (edge_count b)
+  first_word = to_word is_in 0 (to_inflow s b)
 
-  to_words : (w : ℕ) → w < 2 → word_total size w (flows_of s b) ≡ word_total size w (map (flow_to 0) (inflow_faces s b)) + word_total size w (map (flow_to 1) (outflow_faces s b))
-  unfolding flows_of
-  to_words w lt =
-      let one = total_append (size_to size w) (map (flow_to 0) (inflow_faces s b)) (map (flow_to 1) (outflow_faces s b) ++ register_flows s b) in
-      let two = total_append (size_to size w) (map (flow_to 1) (outflow_faces s b)) (register_flows s b) in
-      omega (arith, one, two, registers_none w lt)
-
-  pub first_word : word_total size 0 (flows_of s b) ≡ sum_to (λ n. way_size s (flux_at s.problem s.level m old) is_in b (edge_face b n)) (edge_count b)
-  unfolding inflow_faces is_inflow_face
-  first_word =
-      let parts = to_words 0 (omega arith) in
-      let own = total_image (size_to size 0) (flow_to 0) size (λ f. refl) (inflow_faces s b) in
-      let other = total_image (size_to size 0) (flow_to 1) (λ f. 0) (λ f. refl) (outflow_faces s b) ∙ total_none (outflow_faces s b) in
-      let all = total_passing size (is_inflow_face s b) (edge_face b) (edge_count b) in
-      omega (arith, parts, own, other, all)
-
-  pub second_word : word_total size 1 (flows_of s b) ≡ sum_to (λ n. way_size s (flux_at s.problem s.level m old) is_out b (edge_face b n)) (edge_count b)
-  unfolding outflow_faces is_outflow_face
-  second_word =
-      let parts = to_words 1 (omega arith) in
-      let own = total_image (size_to size 1) (flow_to 1) size (λ f. refl) (outflow_faces s b) in
-      let other = total_image (size_to size 1) (flow_to 0) (λ f. 0) (λ f. refl) (inflow_faces s b) ∙ total_none (inflow_faces s b) in
-      let all = total_passing size (is_outflow_face s b) (edge_face b) (edge_count b) in
-      omega (arith, parts, own, other, all)
+  pub second_word : word_total (λ f. unsigned_abs (e f)) 1 (flows_of s b) ≡ sum_to (λ n. way_size s (flux_at s.problem s.level m old) is_out b (edge_face b n)) (edge_count b)
+  second_word = to_word is_out 1 (to_outflow s b)

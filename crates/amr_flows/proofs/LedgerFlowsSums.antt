@@ -1,6 +1,5 @@
 -- Sums over faces that pass a test, over the sides of a box, and over the patches that hold some cells.
-use Rattle.std.proofs.Common.{◌≡◌, ℕ, zero, suc, ◌+◌, ◌-◌, ◌*◌, ◌<◌, ◌≤◌, Bool, true, false, ◌||◌, cond, List, [], ◌∷◌, ◌++◌, map, refl, sym, ap, ◌∙◌, add-zero, add-suc, arith}
-use Rattle.std.specs.List.{All}
+use Rattle.std.proofs.Common.{◌≡◌, ℕ, zero, suc, ◌+◌, ◌-◌, ◌*◌, ◌<◌, ◌≤◌, Bool, true, false, ◌||◌, cond, List, [], ◌∷◌, refl, sym, ap, ◌∙◌, add-zero, add-suc, arith}
 use Rattle.amr_box.specs.declared.Cell.{Cell}
 use Rattle.amr_box.specs.declared.Face.{Face}
 use Rattle.amr_box.specs.Cells.{Extent, height, holds, width}
@@ -12,30 +11,8 @@ use Rattle.amr_patch.proofs.Lookups.{in_none}
 use Rattle.amr_phase.specs.Plans.{total}
 use Rattle.amr_faces.specs.Faces.{passing, x_end, y_end}
 use Rattle.amr_layout.specs.Surroundings.{edge_count, edge_face, x_start, y_start}
+use Rattle.amr_layout.proofs.Totals.{total_append}
 use Rattle.amr_layout.proofs.Edges.{edge_east, edge_north, edge_south, edge_west}
-
--- ---- over lists
-
-module _ {X : Type 0} where
-  pub total_append : (f : X → ℕ) (xs ys : List X) → total f (xs ++ ys) ≡ total f xs + total f ys
-  total_append f [] ys = omega arith
-  total_append f (x ∷ xs) ys = let rest = total_append f xs ys in let r : f x + total f (xs ++ ys) ≡ (f x + total f xs) + total f ys = omega (arith, rest) in r
-
-  pub total_each : (f g : X → ℕ) (xs : List X) → All (λ x. f x ≡ g x) xs → total f xs ≡ total g xs
-  total_each f g [] h = refl
-  total_each f g (x ∷ xs) h = let here : f x ≡ g x = h 0 x (omega arith) in let rest = total_each f g xs (λ k d lt. h (suc k) d (omega arith)) in let r : f x + total f xs ≡ g x + total g xs = omega (arith, here, rest) in r
-
-  pub total_add : (f g : X → ℕ) (xs : List X) → total (λ x. f x + g x) xs ≡ total f xs + total g xs
-  total_add f g [] = refl
-  total_add f g (x ∷ xs) = let rest = total_add f g xs in let r : (f x + g x) + total (λ y. f y + g y) xs ≡ (f x + total f xs) + (g x + total g xs) = omega (arith, rest) in r
-
-pub total_image : {X Y : Type 0} (f : Y → ℕ) (g : X → Y) (h : X → ℕ) → ((x : X) → f (g x) ≡ h x) → (xs : List X) → total f (map g xs) ≡ total h xs
-total_image f g h same [] = refl
-total_image f g h same (x ∷ xs) = let here = same x in let rest = total_image f g h same xs in let r : f (g x) + total f (map g xs) ≡ h x + total h xs = omega (arith, here, rest) in r
-
-pub total_none : {X : Type 0} (xs : List X) → total (λ (x : X). 0) xs ≡ 0
-total_none [] = refl
-total_none (x ∷ xs) = let rest = total_none xs in omega (arith, rest)
 
 -- ---- over places
 

@@ -1,5 +1,6 @@
 pub mod LedgerFlowsSums
 pub mod LedgerFlowsWays
+pub mod WordSums
 pub mod LedgerFlowsOpen
 pub mod LedgerFlowsSides
 pub mod LedgerFlowsBoxes

@@ -1,7 +1,7 @@
 -- Each border face has a place, where the patch that owns it puts its flux.
 use Rattle.std.proofs.Common.{◌≡◌, ◌∙◌, ℕ, zero, suc, ◌+◌, ◌<◌, Bool, true, false, cond, List, [], ◌∷◌, length, length-append, map, take, add-one, refl, sym, ap, subst, arith}
 use Rattle.std.specs.Prelude.{not, slice_index, slice_index_or}
-use Rattle.std.proofs.lemmas.Bool.{and_parts}
+use Rattle.std.proofs.lemmas.Bool.{and_parts, not-true}
 use Rattle.std.specs.List.{All, Contains, filter, flat_map, range_with_len}
 use Rattle.std.proofs.lemmas.List.{get_or-map, length-map}
 use Rattle.std.proofs.lemmas.List.Concat.{get_or-flat_map}
@@ -19,7 +19,7 @@ use Rattle.amr_layout.specs.declared.PutAt.{PutAt}
 use Rattle.amr_layout.specs.Places.{are_grouped, border_places, borders_of, holder_of, home_face, leads_on, level_borders, placed, places_before, puts_of}
 use Rattle.amr_layout.proofs.LevelPlaces.{level_more}
 use Rattle.amr_flows.specs.Borders.{IsPut}
-use Rattle.amr_flows.proofs.EdgePuts.{all_passing}
+use Rattle.amr_layout.proofs.Planned.{all_passing}
 use Rattle.std.proofs.lemmas.List.Elements.{All-append}
 
 -- ---- lists
@@ -50,7 +50,7 @@ module _ (d : Domain) (ps : List Patch) (each : ℕ) where
   abbrev of : Patch → List Face
   of q = borders_of d ps each (box q)
 
-  leads : (b : Extent) → All (λ f. leads_on d ps each (holder_of ps b.lo) f ≡ true) (borders_of d ps each b)
+  pub leads : (b : Extent) → All (λ f. leads_on d ps each (holder_of ps b.lo) f ≡ true) (borders_of d ps each b)
   unfolding borders_of
   leads b =
       let test = leads_on d ps each (holder_of ps b.lo) in
@@ -92,9 +92,14 @@ module _ (d : Domain) (ps : List Patch) (each : ℕ) where
       let all : length (level_borders d ps each ps) ≡ length (flat_map of ps) = ap length borders in
       omega (arith, before_is i, most, all, below)
 
-  leads_is : (i : ℕ) (g : Face) → leads_on d ps each i g ≡ true → in_patches ps (home_cell d (high_cell g)) ≡ true
+  -- a face that leads on has a cell of the level beyond, and of another group
+  pub leads_is : (i : ℕ) (g : Face) → leads_on d ps each i g ≡ true → in_patches ps (home_cell d (high_cell g)) ≡ true
   unfolding leads_on
   leads_is i g e = (and_parts (in_patches ps (home_cell d (high_cell g))) (not (are_grouped each i (holder_of ps (home_cell d (high_cell g))))) e).0
+
+  pub leads_away : (i : ℕ) (g : Face) → leads_on d ps each i g ≡ true → are_grouped each i (holder_of ps (home_cell d (high_cell g))) ≡ false
+  unfolding leads_on
+  leads_away i g e = not-true (are_grouped each i (holder_of ps (home_cell d (high_cell g)))) (and_parts (in_patches ps (home_cell d (high_cell g))) (not (are_grouped each i (holder_of ps (home_cell d (high_cell g))))) e).1
 
   pub put_there : (i k : ℕ) (q : Patch) (f : Face) → i < length ps → k < length (of (slice_index_or ps i q)) → IsPut d ps each (slice_index (border_places d ps each i) k) (home_face d (slice_index_or (of (slice_index_or ps i q)) k f))
   unfolding puts_of

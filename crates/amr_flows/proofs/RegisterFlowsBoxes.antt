@@ -1,6 +1,7 @@
 -- What one patch adds to the gain of a register cell, less what it adds to its loss.
-use Rattle.std.proofs.Common.{◌≡◌, ◌∙◌, ℕ, suc, ◌+◌, ◌*◌, ◌<◌, Bool, true, false, ◌&&◌, cond, ℤ, pos, ◌+ℤ◌, ◌-ℤ◌, neg_ℤ, List, ◌++◌, length, map, refl, sym, ap, arith}
-use Rattle.std.specs.Prelude.{slice_index_or}
+use Rattle.std.proofs.Common.{◌≡◌, ◌∙◌, ℕ, suc, ◌+◌, ◌*◌, ◌<◌, Bool, true, false, ◌&&◌, cond, ℤ, pos, ◌+ℤ◌, ◌-ℤ◌, neg_ℤ, List, length, map, refl, sym, ap, arith}
+use Rattle.std.specs.Prelude.{◌==◌, ◌||◌, int_lt, not, slice_index_or}
+use Rattle.std.specs.Ordering.{int_eq}
 use Rattle.std.proofs.lemmas.Int.{ints}
 use Rattle.std.proofs.lemmas.Bool.{false_from_ne_true}
 use Rattle.amr_box.specs.declared.Cell.{Cell}
@@ -20,14 +21,15 @@ use Rattle.amr_patch.specs.declared.patches.Patch.{Patch}
 use Rattle.amr_patch.specs.Patches.{in_patches}
 use Rattle.amr_patch.proofs.Rows.{inside}
 use Rattle.amr_faces.specs.Faces.{passing, x_end, y_end}
-use Rattle.amr_layout.specs.Surroundings.{Around, edge_count, edge_face, inward, is_coarse_fine, x_start, y_start}
+use Rattle.amr_layout.specs.Surroundings.{Around, edge_count, edge_face, inside as inner, inward, is_coarse_fine, is_open, x_start, y_start}
 use Rattle.amr_layout.specs.declared.FlowTo.{FlowTo}
-use Rattle.amr_layout.specs.Adds.{cell_beyond, flow_to, flows_of, inflow_faces, is_exchange_face, number_of, outflow_faces, register_flows, size_to, word_of, word_total}
+use Rattle.amr_layout.specs.Adds.{cell_beyond, flow_to, flows_of, goes_on, is_ledger_face, number_of, size_to, word_of, word_total}
+use Rattle.amr_layout.proofs.Going.{open_alone}
 use Rattle.amr_register.specs.CoarseFlows.{high_face, low_face}
 use Rattle.amr_register.specs.RegisterCells.{register_cells}
 use Rattle.amr_flows.specs.Laws.{plain_size}
-use Rattle.amr_flows.proofs.RegisterFlowsSums.{over_append, over_edges, over_map, over_none, over_passing, sum_over, totals_apart}
-use Rattle.amr_flows.proofs.RegisterFlowsSigns.{apart_by_words, has_number, other_word, outward_of, part_of_face, register_cells_rise}
+use Rattle.amr_flows.proofs.RegisterFlowsSums.{over_edges, over_map, over_passing, totals_apart}
+use Rattle.amr_flows.proofs.RegisterFlowsSigns.{apart_by_words, has_number, inward_of, other_word, outward_of, part_of_face, register_cells_rise}
 use Rattle.amr_flows.proofs.RegisterFlowsSides.{along_edge, gate, lies_in}
 use Rattle.amr_flows.proofs.RegisterFlowsCrossings.{east, edge_east, edge_north, edge_south, edge_west, north, south, cross_east, cross_north, cross_south, cross_west, west}
 use Rattle.amr_flows.proofs.RegisterFlowsCells.{plus_none, child_of}
@@ -55,39 +57,42 @@ module _ (p : Problem) (l : ℕ) (coarse fine old finer : Masses) (ps : List Pat
   abbrev difference : FlowTo → ℤ
   difference x = apart_by_words k x.word (size x.face)
 
-  face_part : (b : Extent) (f : Face) → cond (is_exchange_face level b f) (difference (record { word = word_of level b f; face = f })) (pos 0) ≡ part b f
-  unfolding is_exchange_face word_of inward flux_at
+  face_part : (b : Extent) (f : Face) → cond (goes_on level b f) (difference (flow_to (word_of level b f) f)) (pos 0) ≡ part b f
+  unfolding goes_on word_of is_ledger_face inward flux_at
   face_part b f =
-      part_of_face (is_coarse_fine level b f) (holds b (high_cell f)) (courant p (suc l) f) p.d (value_at p (suc l) fine old (low_cell f)) (value_at p (suc l) fine old (high_cell f)) (number_of (register_cells p l coarse fine) (cell_beyond level b f)) k
+      from (is_open level b f) (open_alone level b f)
       ∙ ap (λ (t : Bool). cond (is_coarse_fine level b f && t) (outward_of (holds b (high_cell f)) (flux f)) (pos 0)) (has_number (register_cells p l coarse fine) k (cell_beyond level b f) d (register_cells_rise p l coarse fine) within)
+    where
+      n : ℕ
+      n = number_of (register_cells p l coarse fine) (cell_beyond level b f)
 
-  to_ledger : (b : Extent) (w : ℕ) (fs : List Face) → w < 2 → sum_over difference (map (flow_to w) fs) ≡ pos 0
-  to_ledger b w fs h = over_map difference (flow_to w) fs ∙ over_none (λ f. difference (flow_to w f)) fs (λ f. other_word k w (size f) h)
+      i : ℤ
+      i = inward_of (holds b (high_cell f)) (courant p (suc l) f)
 
-  to_registers : (b : Extent) → sum_over difference (register_flows level b) ≡ sum_z (λ n. part b (edge_face b n)) (edge_count b)
-  unfolding register_flows
-  to_registers b =
-      over_map difference (λ f. record { word = word_of level b f; face = f }) (passing (is_exchange_face level b) (edge_face b) (edge_count b))
-      ∙ over_passing (λ f. difference (record { word = word_of level b f; face = f })) (is_exchange_face level b) (edge_face b) (edge_count b)
-      ∙ sum_z-same (λ n. cond (is_exchange_face level b (edge_face b n)) (difference (record { word = word_of level b (edge_face b n); face = edge_face b n })) (pos 0)) (λ n. part b (edge_face b n)) (edge_count b) (λ n lt. face_part b (edge_face b n))
+      nothing : (t u : Bool) → cond t (apart_by_words k (cond u 0 1) (size f)) (pos 0) ≡ pos 0
+      nothing true true = other_word k 0 (size f) (omega arith)
+      nothing true false = other_word k 1 (size f) (omega arith)
+      nothing false u = refl
 
-  no_others : (b : Extent) → sum_over difference (flows_of level b) ≡ sum_over difference (register_flows level b)
-  unfolding flows_of
-  no_others b =
-      let first = map (flow_to 0) (inflow_faces level b) in
-      let second = map (flow_to 1) (outflow_faces level b) in
-      let last = register_flows level b in
-      let a : sum_over difference (first ++ (second ++ last)) ≡ sum_over difference first +ℤ sum_over difference (second ++ last) = over_append difference first (second ++ last) in
-      let e : sum_over difference (second ++ last) ≡ sum_over difference second +ℤ sum_over difference last = over_append difference second last in
-      let f = to_ledger b 0 (inflow_faces level b) (omega arith) in
-      let g = to_ledger b 1 (outflow_faces level b) (omega arith) in
-      omega (arith, ints, a, e, f, g)
+      from : (o : Bool) → (o ≡ true → is_coarse_fine level b f ≡ false)
+          → cond (((o && not (is_covered finer (inner b f))) || is_coarse_fine level b f) && not (int_eq i (pos 0))) (apart_by_words k (cond o (cond (int_lt (pos 0) i) 0 1) (cond (int_lt i (pos 0)) (2 + 2 * n) (3 + 2 * n))) (size f)) (pos 0)
+          ≡ cond (is_coarse_fine level b f && (n == k)) (outward_of (holds b (high_cell f)) (flux f)) (pos 0)
+      from true alone =
+          nothing ((not (is_covered finer (inner b f)) || is_coarse_fine level b f) && not (int_eq i (pos 0))) (int_lt (pos 0) i)
+          ∙ sym (ap (λ (t : Bool). cond (t && (n == k)) (outward_of (holds b (high_cell f)) (flux f)) (pos 0)) (alone refl))
+      from false alone =
+          part_of_face (is_coarse_fine level b f) (holds b (high_cell f)) (courant p (suc l) f) p.d (value_at p (suc l) fine old (low_cell f)) (value_at p (suc l) fine old (high_cell f)) n k
 
   pub box_parts : (b : Extent) → pos (word_total size (2 + 2 * k) (flows_of level b)) -ℤ pos (word_total size (3 + 2 * k) (flows_of level b))
       ≡ (sum_z (λ j. part b (x_start b j)) (height b) +ℤ sum_z (λ j. part b (x_end b j)) (height b)) +ℤ (sum_z (λ i. part b (y_start b i)) (width b) +ℤ sum_z (λ i. part b (y_end b i)) (width b))
+  unfolding flows_of
   box_parts b =
-      totals_apart (size_to size (2 + 2 * k)) (size_to size (3 + 2 * k)) (flows_of level b)
-      ∙ no_others b ∙ to_registers b ∙ over_edges (part b) b
+      let to : Face → FlowTo = λ f. flow_to (word_of level b f) f in
+      totals_apart (size_to size (2 + 2 * k)) (size_to size (3 + 2 * k)) (map to (passing (goes_on level b) (edge_face b) (edge_count b)))
+      ∙ over_map difference to (passing (goes_on level b) (edge_face b) (edge_count b))
+      ∙ over_passing (λ f. difference (to f)) (goes_on level b) (edge_face b) (edge_count b)
+      ∙ sum_z-same (λ n. cond (goes_on level b (edge_face b n)) (difference (to (edge_face b n))) (pos 0)) (λ n. part b (edge_face b n)) (edge_count b) (λ n lt. face_part b (edge_face b n))
+      ∙ over_edges (part b) b
 
   -- ---- by sides
 

@@ -44,10 +44,6 @@ module _ {X : Type 0} where
       let r : (f x +ℤ g x) +ℤ sum_over (λ y. f y +ℤ g y) xs ≡ (f x +ℤ sum_over f xs) +ℤ (g x +ℤ sum_over g xs) = omega (arith, ints, rest) in
       r
 
-  pub over_none : (f : X → ℤ) (xs : List X) → ((x : X) → f x ≡ pos 0) → sum_over f xs ≡ pos 0
-  over_none f [] h = refl
-  over_none f (x ∷ xs) h = λ i. h x i +ℤ over_none f xs h i
-
 pub over_map : {X Y : Type 0} (g : Y → ℤ) (f : X → Y) (xs : List X) → sum_over g (map f xs) ≡ sum_over (λ x. g (f x)) xs
 over_map g f [] = refl
 over_map g f (x ∷ xs) = ap (λ z. g (f x) +ℤ z) (over_map g f xs)

@@ -1,5 +1,5 @@
 -- The layout of a level whose patches stand in groups, by counts: who puts each border face, and which flows are added to which word.
-use Rattle.std.specs.Prelude.{◌≡◌, ℕ, ◌==◌, ◌<◌, Bool, false, ◌&&◌, ◌||◌, cond, List, length, slice_index_or, IsTrue}
+use Rattle.std.specs.Prelude.{◌≡◌, ℕ, ◌==◌, ◌<◌, Bool, false, ◌&&◌, cond, length, slice_index_or, IsTrue}
 use Rattle.std.specs.List.{All}
 use Rattle.amr_box.specs.declared.Face.{Face}
 use Rattle.amr_box.specs.Cells.{Extent, holds}
@@ -10,29 +10,24 @@ use Rattle.amr_patch.specs.declared.patches.Patch.{Patch}
 use Rattle.amr_patch.specs.Patches.{ArePatchesApart, box, in_patches}
 use Rattle.amr_phase.specs.Plans.{total}
 use Rattle.amr_layout.specs.declared.PutAt.{PutAt}
-use Rattle.amr_layout.specs.Adds.{flows_of, is_exchange_face, is_inflow_face, is_outflow_face, word_of, word_total}
-use Rattle.amr_layout.specs.Places.{are_grouped, borders_of, holder_of, home_face, level_borders, puts_of}
+use Rattle.amr_layout.specs.Adds.{flows_of, goes_on, word_of, word_total}
+use Rattle.amr_layout.specs.Arounds.{all_borders}
+use Rattle.amr_layout.specs.Places.{are_grouped, borders_of, holder_of, home_face, puts_of}
 use Rattle.amr_layout.specs.Surroundings.{Around, domain_around, edge_count, edge_face}
-
--- the border faces between groups of so many patches of a level, the place of each being its place in this list
-abbrev pub borders_around : Around → ℕ → List Face
-borders_around s each = level_borders (domain_around s) s.patches each s.patches
 
 -- how often the patches of a level put at a place
 abbrev pub puts_at : Around → ℕ → ℕ → ℕ
 puts_at s each place = total (λ (q : Patch). total (λ (u : PutAt). cond (u.place == place) 1 0) (puts_of (domain_around s) s.patches each (box q))) s.patches
 
--- whether the flow through a face on the edges of a box goes to a word: into the domain through an open side beside a cell that is
--- not covered to word 0, out of it there to word 1, and through the coarse-fine edge to the gain or the loss of the register cell
--- beyond
+-- whether the flow through a face on the edges of a box goes to this word
 unfoldable pub goes_to : Around → Extent → ℕ → Face → Bool
-goes_to s b word f = (is_inflow_face s b f && (0 == word)) || ((is_outflow_face s b f && (1 == word)) || (is_exchange_face s b f && (word_of s b f == word)))
+goes_to s b word f = goes_on s b f && (word_of s b f == word)
 
 -- a put is of the face that the border face of its place stands for, and its patch owns that: it has the cell at the high side
 pub record IsOwnPut (s : Around) (each : ℕ) (q : Patch) (u : PutAt) : Type 0 where
   pub owner : IsTrue (holds (box q) (high_cell u.face))
-  pub there : u.place < length (borders_around s each)
-  pub of_border : (f : Face) → u.face ≡ home_face (domain_around s) (slice_index_or (borders_around s each) u.place f)
+  pub there : u.place < length (all_borders s each)
+  pub of_border : (f : Face) → u.face ≡ home_face (domain_around s) (slice_index_or (all_borders s each) u.place f)
 
 -- a border face of a patch's box lies beside a cell of the level that no patch of its group has
 pub record IsBetweenGroups (s : Around) (each : ℕ) (b : Extent) (f : Face) : Type 0 where
@@ -43,7 +38,7 @@ pub record IsExact (s : Around) (each : ℕ) : Type 0 where
   -- border faces lie between groups
   pub between : (b : Extent) → All (IsBetweenGroups s each b) (borders_of (domain_around s) s.patches each b)
   -- each border face is put once, by the patch that owns it
-  pub put_once : (place : ℕ) → place < length (borders_around s each) → puts_at s each place ≡ 1
+  pub put_once : (place : ℕ) → place < length (all_borders s each) → puts_at s each place ≡ 1
   pub put_by_owner : (q : Patch) → All (IsOwnPut s each q) (puts_of (domain_around s) s.patches each (box q))
   -- what a patch adds to a word is what flows through the faces on its edges whose flows go there, each counted once, whatever flows
   pub added_once : (q : Patch) (flow : Face → ℕ) (word : ℕ)

@@ -3,11 +3,11 @@ use Rattle.std.proofs.Common.{◌≡◌, ◌≢◌, ℕ, ◌+◌, ◌-◌, ◌*�
 use Rattle.std.specs.Prelude.{slice_index, slice_index_or}
 use Rattle.std.proofs.Math.ListN.{get_or-append}
 use Rattle.std.proofs.Math.Nat.{mul-le-mul_right}
-use Rattle.std.proofs.lemmas.List.{get_or-append_right, get_or-drop, get_or-take}
+use Rattle.std.proofs.lemmas.List.{get_or-append_right, get_or-drop, get_or-take, length-drop}
 use Rattle.std.proofs.lemmas.List.Edits.{get_or-between}
 use Rattle.std.proofs.lemmas.Bool.{cases_lt}
 use borrow.Rule.Slice.PartMut.{put_mid}
-use Rattle.amr_flux.specs.Rows.{inflow}
+use Rattle.amr_flux.specs.Rows.{net_in_row}
 use Rattle.amr_faces.specs.Shares.{AreSmall}
 
 -- ---- a part that is read
@@ -15,18 +15,18 @@ use Rattle.amr_faces.specs.Shares.{AreSmall}
 pub read : (xs : List ℕ) (a b t : ℕ) → a + t < b → slice_index (take (b - a) (drop a xs)) t ≡ slice_index xs (a + t)
 read xs a b t h = get_or-between xs a b t 0 h
 
-pub small_part : (xs : List ℕ) (a b : ℕ) → ((t : ℕ) → a + t < b → slice_index xs (a + t) < 2 ^ 31) → AreSmall (take (b - a) (drop a xs))
-small_part xs a b each = record {
-  at = λ t h.
-      let below : a + t < b = omega (arith, length-take (b - a) (drop a xs)) in
-      rw (read xs a b t below) (each t below);
-}
+-- values that are such ones below 2^31
+pub small_part : (part : List ℕ) (f : ℕ → ℕ) (n : ℕ) → length part ≡ n → ((k : ℕ) → k < n → slice_index part k ≡ f k) → ((k : ℕ) → k < n → f k < 2 ^ 31) → AreSmall part
+small_part part f n count is small = record { at = λ k h. let below : k < n = omega (arith, h, count) in omega (arith, is k below, small k below) }
 
--- cell i of row j of a patch stands in its table, whose rows are two longer and two more
-pub in_table : (w h i j n : ℕ) → n ≡ (h + 2) * (w + 2) → j < h → i < w + 2 → (j + 1) * (w + 2) + i < n
-in_table w h i j n e row column =
-    let all : (j + 2) * (w + 2) ≤ (h + 2) * (w + 2) = mul-le-mul_right (w + 2) (omega arith) in
-    omega (arith, e, all, column)
+-- the values of row j from column i on stand in a patch's table, whose rows are two longer and two more
+pub part_in_table : (w h i j k n : ℕ) → n ≡ (h + 2) * (w + 2) → j < h + 2 → i + k ≤ w + 2 → j * (w + 2) + i + k ≤ n
+part_in_table w h i j k n e row columns =
+    let all : (j + 1) * (w + 2) ≤ (h + 2) * (w + 2) = mul-le-mul_right (w + 2) (omega arith) in
+    omega (arith, e, all, columns)
+
+pub in_table : (w h i j n : ℕ) → n ≡ (h + 2) * (w + 2) → j < h + 2 → i < w + 2 → j * (w + 2) + i < n
+in_table w h i j n e row column = let last : j * (w + 2) + i + 1 ≤ n = part_in_table w h i j 1 n e row (omega (arith, column)) in omega (arith, last)
 
 -- ---- a part that was written: k entries from a on
 
@@ -69,10 +69,13 @@ module _ {X : Type 0} (r j s a k : ℕ) (xs ys : List X) (d : X) (start : a ≡ 
 
 -- the sizes from a place on
 pub rest_small : (border : List ℕ) (used : ℕ) → AreSmall border → AreSmall (take (length border - used) (drop used border))
-rest_small border used small = small_part border used (length border) (λ t h. small.at (used + t) h)
+rest_small border used small =
+    let n = length border - used in
+    small_part (take n (drop used border)) (λ t. slice_index border (used + t)) n (omega (arith, length-take n (drop used border), length-drop used border))
+    (λ t h. get_or-between border used (length border) t 0 (omega (arith, h))) (λ t h. small.at (used + t) (omega (arith, h)))
 
 -- what comes in by the first entries of longer lists
-pub inflow_part : (xs ls hs : List ℤ) (w t : ℕ) → t < w → inflow (take (w + 1) xs) (take w ls) (take w hs) t ≡ inflow xs ls hs t
+pub inflow_part : (xs ls hs : List ℤ) (w t : ℕ) → t < w → net_in_row (take (w + 1) xs) (take w ls) (take w hs) t ≡ net_in_row xs ls hs t
 inflow_part xs ls hs w t h =
     let west : slice_index_or (take (w + 1) xs) t (pos 0) ≡ slice_index_or xs t (pos 0) = get_or-take (w + 1) xs t (pos 0) (omega arith) in
     let east : slice_index_or (take (w + 1) xs) (t + 1) (pos 0) ≡ slice_index_or xs (t + 1) (pos 0) = get_or-take (w + 1) xs (t + 1) (pos 0) (omega arith) in

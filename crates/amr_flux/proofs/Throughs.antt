@@ -7,7 +7,7 @@ use Rattle.std.proofs.lemmas.Nat.{same_from_place}
 use Rattle.amr_def.specs.declared.problem.Problem.{Problem}
 use Rattle.amr_def.specs.Flux.{flow}
 use Rattle.amr_faces.specs.Shares.{signed}
-use Rattle.amr_flux.specs.Rows.{inflow}
+use Rattle.amr_flux.specs.Rows.{net_in_row}
 use Rattle.amr_faces.specs.Numbers.{x_number, y_number}
 use Rattle.amr_flux.specs.Tables.{IsOtherPlace, count_below, net_inflow, value, x_flux, x_marked, x_through, y_flux, y_marked, y_through}
 
@@ -132,7 +132,7 @@ module _ (w j : ℕ) (values new old : List ℕ) (f : ℕ → ℕ → ℤ) (kept
 pub total_now : (x low high : List ℤ) (X Y : ℕ → ℕ → ℤ) (m v t j : ℕ) → m ≡ v
     → slice_index_or x t (pos 0) ≡ X t j → slice_index_or x (t + 1) (pos 0) ≡ X (t + 1) j
     → slice_index_or low t (pos 0) ≡ Y t j → slice_index_or high t (pos 0) ≡ Y t (j + 1)
-    → pos m +ℤ inflow x low high t ≡ pos v +ℤ net_inflow X Y t j
+    → pos m +ℤ net_in_row x low high t ≡ pos v +ℤ net_inflow X Y t j
 total_now x low high X Y m v t j e ew ee es en = λ i. pos (e i) +ℤ ((ew i -ℤ ee i) +ℤ (es i -ℤ en i))
 
 -- ---- a row in an update
@@ -156,7 +156,7 @@ module _ (p : Problem) (l row column w h : ℕ) (marks : List Bool) (border old 
   -- what a cell of the row gets, by its lists of fluxes
   pub row_total : (x low high : List ℤ) → ((k : ℕ) → k ≤ w → slice_index_or x k (pos 0) ≡ x_through p l row w marks border values k j) → ((i : ℕ) → i < w → slice_index_or low i (pos 0) ≡ ys i j)
       → ((i : ℕ) → i < w → slice_index_or high i (pos 0) ≡ y_through p l column w h marks border values i (j + 1))
-      → (t : ℕ) → t < w → pos (value w values (t + 1) (j + 1)) +ℤ inflow x low high t ≡ pos (value w old (t + 1) (j + 1)) +ℤ net_inflow xs ys t j
+      → (t : ℕ) → t < w → pos (value w values (t + 1) (j + 1)) +ℤ net_in_row x low high t ≡ pos (value w old (t + 1) (j + 1)) +ℤ net_inflow xs ys t j
   row_total x low high x_is low_is high_is t i =
       total_now x low high xs ys _ _ t j (later w j values old before (j + 1) (t + 1) _ (omega arith) (omega (arith, i)) refl)
       (x_is t (omega (arith, i)) ∙ x_same t (omega (arith, i))) (x_is (t + 1) (omega (arith, i)) ∙ x_same (t + 1) (omega (arith, i))) (low_is t i) (high_is t i ∙ y_same t i)

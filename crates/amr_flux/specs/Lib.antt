@@ -1,4 +1,5 @@
 pub mod Columns
+pub mod NewMasses
 pub mod Paces
 pub mod Rooms
 pub mod Rows

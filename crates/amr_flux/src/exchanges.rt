@@ -1,6 +1,6 @@
 //! What flows through border faces, in place of what the frame says of them.
 
-ghost use Rattle.std.specs.Prelude.{◌≡◌, ◌≢◌, ℕ, ℤ, ◌+◌, ◌*◌, ◌<◌, ◌≤◌, ◌^◌, cond, length, pos, ◌+ℤ◌, ◌-ℤ◌, slice_index};
+ghost use Rattle.std.specs.Prelude.{◌≡◌, ◌≢◌, ℕ, ℤ, ◌+◌, ◌*◌, ◌<◌, ◌≤◌, ◌^◌, cond, length, ◌+ℤ◌, ◌-ℤ◌, slice_index};
 ghost use Rattle.amr_flux.specs.Paces.{IsFit, IsWordOf, top_share};
 ghost use Rattle.amr_faces.specs.Shares.{signed};
 ghost use Rattle.amr_flux.specs.Tables.{count_below, value, x_marked, y_marked};

@@ -16,6 +16,7 @@ mod room;
 mod row_steps;
 mod rows;
 mod shape;
+mod tables;
 mod update_rows;
 mod x_faces;
 mod y_faces;

@@ -22,6 +22,7 @@ use amr_patch::Patch;
 /// the masses and the frame, but for those through some faces at its high side, which a mask tells: in the places of the patch's
 /// marks it is true at the ghost cells beyond them. `border` has the sizes of what flows there, first through the x faces by y, then
 /// through the y faces by x. Each of these flows the way of the Courant number at its face.
+#[inline(always)]
 pub fn update_by(
     p: &Problem,
     l: u32,
@@ -76,13 +77,5 @@ pub fn update_alone(p: &Problem, l: u32, patch: &mut Patch, room: &mut Room)
     ensures fluxes { SameFluxes patch.old patch.new }
     ensures room { widest room.new ≡ widest room.old }
 {
-    let shape = shape_of(p, l, &patch.bx, room);
-    room.x_share = shape.x;
-    room.y_share = shape.y;
-    let none = Border {
-        marks: &[],
-        sizes: &[],
-    };
-    let data = &mut *patch.data;
-    update_cells(p, shape, &mut data.values, none, room);
+    update_by(p, l, patch, &[], &[], room);
 }

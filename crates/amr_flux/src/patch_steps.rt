@@ -1,6 +1,6 @@
 //! The new masses of a patch in one pass row by row, where one Courant number holds along each axis.
 
-ghost use Rattle.std.specs.Prelude.{◌≡◌, ◌≢◌, ℕ, ◌+◌, ◌*◌, ◌<◌, ◌≤◌, ◌^◌, pos, ◌≤ℤ◌, ◌<ℤ◌, length, slice_index};
+ghost use Rattle.std.specs.Prelude.{◌≡◌, ℕ, ◌+◌, ◌*◌, ◌<◌, ◌≤◌, ◌^◌, pos, ◌≤ℤ◌, ◌<ℤ◌, length, slice_index};
 ghost use Rattle.amr_flux.specs.Paces.{AreFit, GoesWith, IsFitPatch, IsWordOf, mass_by_ends, mass_with, row_at, row_before, y_share};
 ghost use Rattle.amr_flux.specs.Tables.{IsOtherPlace, count_below, value, x_marked, y_marked};
 

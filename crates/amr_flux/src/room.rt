@@ -30,7 +30,7 @@ pub struct Room {
 
 #[tactic(auto, unfolding(crate::specs::Rooms::widest))]
 impl Room {
-    ghost use Rattle.std.specs.Prelude.{◌<◌, ◌≤◌, ◌^◌, IfOk, nat_le};
+    ghost use Rattle.std.specs.Prelude.{◌<◌, IfOk, nat_le};
     ghost use Rattle.amr_flux.specs.Rooms.{widest};
 
     /// Room for patches of at most so many columns.

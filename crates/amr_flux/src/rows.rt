@@ -3,7 +3,7 @@
 ghost use Rattle.std.specs.Prelude.{◌≡◌, ◌≢◌, neg_ℤ, ℕ, ◌+◌, ◌*◌, ◌<◌, ◌≤◌, length, slice_index, slice_index_or, pos, negsuc, ◌+ℤ◌, ◌-ℤ◌, ◌≤ℤ◌, ◌<ℤ◌, ◌^◌};
 ghost use Rattle.amr_def.specs.Flux.{flow};
 ghost use Rattle.amr_flux.specs.Rooms.{widest};
-ghost use Rattle.amr_flux.specs.Rows.{AreSmallFlows, inflow};
+ghost use Rattle.amr_flux.specs.Rows.{AreSmallFlows, net_in_row};
 ghost use Rattle.amr_faces.specs.Shares.{AreSmall, share_of};
 ghost use Rattle.amr_flux.specs.Tables.{value};
 
@@ -91,9 +91,9 @@ pub(crate) fn update_row(masses: &mut [u32], x: &[i32], low: &[i32], high: &[i32
     requires x_count { length x.now ≡ length masses.old + 1 }
     requires low_count { length low.now ≡ length masses.old }
     requires high_count { length high.now ≡ length masses.old }
-    requires kept { (k : ℕ) → k < length masses.old → pos 0 ≤ℤ (pos (slice_index masses.old k) +ℤ inflow x.now low.now high.now k) }
-    requires fits { (k : ℕ) → k < length masses.old → (pos (slice_index masses.old k) +ℤ inflow x.now low.now high.now k) <ℤ pos (2 ^ 32) }
-    ensures { (k : ℕ) → k < length masses.old → pos (slice_index masses.new k) ≡ pos (slice_index masses.old k) +ℤ inflow x.now low.now high.now k }
+    requires kept { (k : ℕ) → k < length masses.old → pos 0 ≤ℤ (pos (slice_index masses.old k) +ℤ net_in_row x.now low.now high.now k) }
+    requires fits { (k : ℕ) → k < length masses.old → (pos (slice_index masses.old k) +ℤ net_in_row x.now low.now high.now k) <ℤ pos (2 ^ 32) }
+    ensures { (k : ℕ) → k < length masses.old → pos (slice_index masses.new k) ≡ pos (slice_index masses.old k) +ℤ net_in_row x.now low.now high.now k }
 {
     for k in 0..masses.len() {
         masses[k] = mass_after(masses[k], x[k], x[k + 1], low[k], high[k]);
@@ -107,12 +107,12 @@ pub(crate) fn update_patch_row(shape: Shape, j: usize, values: &mut [u32], room:
     requires row { j < shape.h }
     requires room { shape.w ≤ widest room.now }
     requires kept { (i : ℕ) → i < shape.w
-        → pos 0 ≤ℤ (pos (value shape.w values.old (i + 1) (j + 1)) +ℤ inflow room.now.x.items room.now.low.items room.now.high.items i) }
+        → pos 0 ≤ℤ (pos (value shape.w values.old (i + 1) (j + 1)) +ℤ net_in_row room.now.x.items room.now.low.items room.now.high.items i) }
     requires fits { (i : ℕ) → i < shape.w
-        → (pos (value shape.w values.old (i + 1) (j + 1)) +ℤ inflow room.now.x.items room.now.low.items room.now.high.items i) <ℤ pos (2 ^ 32) }
+        → (pos (value shape.w values.old (i + 1) (j + 1)) +ℤ net_in_row room.now.x.items room.now.low.items room.now.high.items i) <ℤ pos (2 ^ 32) }
     ensures made { (i : ℕ) → i < shape.w
         → pos (value shape.w values.new (i + 1) (j + 1))
-        ≡ pos (value shape.w values.old (i + 1) (j + 1)) +ℤ inflow room.now.x.items room.now.low.items room.now.high.items i }
+        ≡ pos (value shape.w values.old (i + 1) (j + 1)) +ℤ net_in_row room.now.x.items room.now.low.items room.now.high.items i }
     ensures others { (k : ℕ) → ((i : ℕ) → i < shape.w → k ≢ (j + 1) * (shape.w + 2) + (i + 1)) → slice_index values.new k ≡ slice_index values.old k }
 {
     let w = shape.w;

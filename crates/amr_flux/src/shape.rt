@@ -1,6 +1,6 @@
 //! Where a patch stands in its level, how many cells it has along each axis, and its Courant numbers.
 
-ghost use Rattle.std.specs.Prelude.{◌≡◌, ◌≤◌, ◌<◌, pos, ◌≤ℤ◌};
+ghost use Rattle.std.specs.Prelude.{◌≡◌, ◌+◌, ◌≤◌, ◌<◌, pos, ◌≤ℤ◌};
 ghost use Rattle.amr_box.specs.Cells.{IsNear, height, width};
 ghost use Rattle.amr_def.specs.Domain.{columns, domain, rows};
 ghost use Rattle.amr_faces.specs.Faces.{IsInDomain};
@@ -35,7 +35,7 @@ pub(crate) fn coordinate(z: i32) -> u32
 
 /// The share at the Courant number of the x faces in a row of a level, from the share that was used last.
 #[tactic(auto, using(amr_faces::proofs::Numbers::x_slow))]
-pub(crate) fn x_share(p: &Problem, level: u32, row: u32, last: Share) -> Share
+fn x_share(p: &Problem, level: u32, row: u32, last: Share) -> Share
     requires level { level ≤ 4 }
     requires inside { row < rows p.now level }
     ensures number { result.number ≡ x_number p.now level row }
@@ -46,13 +46,35 @@ pub(crate) fn x_share(p: &Problem, level: u32, row: u32, last: Share) -> Share
 
 /// The share at the Courant number of the y faces in a column of a level, from the share that was used last.
 #[tactic(auto, using(amr_faces::proofs::Numbers::y_slow))]
-pub(crate) fn y_share(p: &Problem, level: u32, column: u32, last: Share) -> Share
+fn y_share(p: &Problem, level: u32, column: u32, last: Share) -> Share
     requires level { level ≤ 4 }
     requires inside { column < columns p.now level }
     ensures number { result.number ≡ y_number p.now level column }
     ensures parts { result.parts ≡ p.now.d }
 {
     last.with(p.y_courant(level, column), p.d)
+}
+
+/// The share at the Courant number of the x faces in row `j` of a patch, from the share that was used last.
+pub(crate) fn row_share(p: &Problem, shape: Shape, j: usize, last: Share) -> Share
+    requires level { shape.level ≤ 4 }
+    requires inside { shape.row + shape.h ≤ rows p.now shape.level }
+    requires row { j < shape.h }
+    ensures number { result.number ≡ x_number p.now shape.level (shape.row + j) }
+    ensures parts { result.parts ≡ p.now.d }
+{
+    x_share(p, shape.level, shape.row + j as u32, last)
+}
+
+/// The share at the Courant number of the y faces in column `i` of a patch, from the share that was used last.
+pub(crate) fn column_share(p: &Problem, shape: Shape, i: usize, last: Share) -> Share
+    requires level { shape.level ≤ 4 }
+    requires inside { shape.column + shape.w ≤ columns p.now shape.level }
+    requires column { i < shape.w }
+    ensures number { result.number ≡ y_number p.now shape.level (shape.column + i) }
+    ensures parts { result.parts ≡ p.now.d }
+{
+    y_share(p, shape.level, shape.column + i as u32, last)
 }
 
 /// The shape of a box of a level.

@@ -1,17 +1,17 @@
 //! The new masses of a patch's cells, row by row.
 
-ghost use Rattle.std.specs.Prelude.{◌≡◌, ℕ, ◌+◌, ◌*◌, ◌<◌, ◌≤◌, ◌^◌, pos, ◌+ℤ◌, ◌≤ℤ◌, ◌<ℤ◌, length, slice_index, slice_index_or};
-ghost use Rattle.amr_def.specs.Domain.{columns, rows};
-ghost use Rattle.amr_flux.specs.Columns.{AreColumns};
+ghost use Rattle.std.specs.Prelude.{◌≡◌, ℕ, ◌+◌, ◌*◌, ◌<◌, ◌≤◌, ◌^◌, pos, length, slice_index_or};
+ghost use Rattle.amr_def.specs.Domain.{columns};
 ghost use Rattle.amr_faces.specs.Numbers.{x_number};
+ghost use Rattle.amr_flux.specs.Columns.{AreColumns};
+ghost use Rattle.amr_flux.specs.NewMasses.{AreSizes, AreUpdated, MayUpdate};
 ghost use Rattle.amr_flux.specs.Rooms.{widest};
-ghost use Rattle.amr_faces.specs.Shares.{AreSmall};
-ghost use Rattle.amr_flux.specs.Tables.{AreXSmall, AreYSmall, IsOtherPlace, count_below, net_inflow, value, x_marked, x_through, y_marked, y_through};
+ghost use Rattle.amr_flux.specs.Tables.{count_below, value, x_marked, x_through, y_through};
 
 use crate::exchanges::Border;
 use crate::room::Room;
 use crate::rows::update_patch_row;
-use crate::shape::{Shape, x_share};
+use crate::shape::{Shape, row_share};
 use crate::x_faces::{is_end_marked, set_end, x_row};
 use crate::y_faces::{set_columns, set_top, y_row};
 use amr_def::Problem;
@@ -39,9 +39,7 @@ fn row_fluxes(
     requires value_count { length values.now ≡ (shape.h + 2) * (shape.w + 2) }
     requires room { shape.w ≤ widest room.old }
     requires used { used ≡ count_below (x_marked shape.w border.marks.now) j }
-    requires enough { count_below (x_marked shape.w border.marks.now) shape.h + count_below (y_marked shape.w shape.h border.marks.now) shape.w
-        ≤ length border.sizes.now }
-    requires border_small { AreSmall border.sizes.now }
+    requires sizes { AreSizes shape.w shape.h border.marks.now border.sizes.now }
     requires here_small { (i : ℕ) → i < shape.w + 2 → value shape.w values.now i (j + 1) < 2 ^ 31 }
     requires above_small { (i : ℕ) → i < shape.w → value shape.w values.now (i + 1) (j + 1 + 1) < 2 ^ 31 }
     ensures used { result ≡ count_below (x_marked shape.w border.entry.marks.now) (j + 1) }
@@ -86,31 +84,9 @@ pub(crate) fn update_rows(
     border: Border<'_, '_>,
     room: &mut Room,
 )
-    requires level { shape.level ≤ 4 }
-    requires columns_inside { shape.column + shape.w ≤ columns p.now shape.level }
-    requires rows_inside { shape.row + shape.h ≤ rows p.now shape.level }
-    requires value_count { length values.old ≡ (shape.h + 2) * (shape.w + 2) }
-    requires some { 0 < shape.h }
+    requires ready { MayUpdate p.now shape border.marks.now border.sizes.now values.old }
     requires room { shape.w ≤ widest room.old }
-    requires enough { count_below (x_marked shape.w border.marks.now) shape.h + count_below (y_marked shape.w shape.h border.marks.now) shape.w
-        ≤ length border.sizes.now }
-    requires border_small { AreSmall border.sizes.now }
-    requires x_small { AreXSmall shape.w shape.h values.old }
-    requires y_small { AreYSmall shape.w shape.h values.old }
-    requires kept { (i j : ℕ) → i < shape.w → j < shape.h
-        → pos 0 ≤ℤ (pos (value shape.w values.old (i + 1) (j + 1))
-        +ℤ net_inflow (x_through p.now shape.level shape.row shape.w border.marks.now border.sizes.now values.old)
-        (y_through p.now shape.level shape.column shape.w shape.h border.marks.now border.sizes.now values.old) i j) }
-    requires fits { (i j : ℕ) → i < shape.w → j < shape.h
-        → (pos (value shape.w values.old (i + 1) (j + 1))
-        +ℤ net_inflow (x_through p.now shape.level shape.row shape.w border.marks.now border.sizes.now values.old)
-        (y_through p.now shape.level shape.column shape.w shape.h border.marks.now border.sizes.now values.old) i j) <ℤ pos (2 ^ 32) }
-    ensures made { (i j : ℕ) → i < shape.w → j < shape.h
-        → pos (value shape.w values.new (i + 1) (j + 1))
-        ≡ pos (value shape.w values.old (i + 1) (j + 1))
-        +ℤ net_inflow (x_through p.now shape.level shape.row shape.w border.entry.marks.now border.entry.sizes.now values.old)
-        (y_through p.now shape.level shape.column shape.w shape.h border.entry.marks.now border.entry.sizes.now values.old) i j }
-    ensures others { (k : ℕ) → IsOtherPlace shape.w shape.h k → slice_index values.new k ≡ slice_index values.old k }
+    ensures masses { AreUpdated p.now shape border.entry.marks.now border.entry.sizes.now values.old values.new }
     ensures room { widest room.new ≡ widest room.old }
 {
     set_columns(p, shape, &mut room.columns);
@@ -118,7 +94,7 @@ pub(crate) fn update_rows(
     let mut share = shape.x;
     let mut used = 0;
     for j in 0..shape.h {
-        share = x_share(p, shape.level, shape.row + j as u32, share);
+        share = row_share(p, shape, j, share);
         used = row_fluxes(p, shape, share, values, j, border, used, room);
         update_patch_row(shape, j, values, room);
         std::mem::swap(&mut room.low, &mut room.high);

@@ -8,13 +8,13 @@ ghost use Rattle.amr_faces.specs.Numbers.{x_number};
 ghost use Rattle.amr_flux.specs.Tables.{AreXSmall, value, x_flux, x_marked};
 
 use crate::rows::face_fluxes;
-use crate::shape::{Shape, x_share};
+use crate::shape::{Shape, row_share};
+use crate::tables::{row_part, value_at};
 use crate::y_faces::signed_flux;
 use amr_def::Problem;
 use amr_faces::Share;
 
 /// The flux through x face `i` of row `j`.
-#[tactic(auto, using(crate::proofs::Parts::in_table))]
 pub(crate) fn x_face_flux(shape: Shape, share: Share, values: &[u32], i: usize, j: usize) -> i32
     requires value_count { length values.now ≡ (shape.h + 2) * (shape.w + 2) }
     requires column { i ≤ shape.w }
@@ -23,8 +23,9 @@ pub(crate) fn x_face_flux(shape: Shape, share: Share, values: &[u32], i: usize, 
     ensures value { result ≡ flow share.number share.parts (value shape.w values.now i (j + 1)) (value shape.w values.now (i + 1) (j + 1)) }
     ensures small { unsigned_abs result < 2147483648 }
 {
-    let at = (j + 1) * (shape.w + 2);
-    share.flow(values[at + i], values[at + (i + 1)])
+    let low = value_at(shape, values, i, j + 1);
+    let high = value_at(shape, values, i + 1, j + 1);
+    share.flow(low, high)
 }
 
 /// The flux through x face `i` of each row, where one Courant number holds in all rows.
@@ -43,7 +44,6 @@ fn column_at(shape: Shape, share: Share, values: &[u32], i: usize, fluxes: &mut 
 }
 
 /// The flux through x face `i` of each row.
-#[tactic(auto, using(amr_faces::proofs::Numbers::plain_x_slow))]
 fn column_fluxes(p: &Problem, shape: Shape, values: &[u32], i: usize, fluxes: &mut [i32])
     requires level { shape.level ≤ 4 }
     requires inside { shape.row + shape.h ≤ rows p.now shape.level }
@@ -59,7 +59,7 @@ fn column_fluxes(p: &Problem, shape: Shape, values: &[u32], i: usize, fluxes: &m
     }
     let mut share = shape.x;
     for j in 0..fluxes.len() {
-        share = x_share(p, shape.level, shape.row + j as u32, share);
+        share = row_share(p, shape, j, share);
         fluxes[j] = x_face_flux(shape, share, values, i, j);
     }
 }
@@ -104,13 +104,10 @@ pub(crate) fn x_row(
     requires small { (i : ℕ) → i < shape.w + 2 → value shape.w values.now i (j + 1) < 2147483648 }
     ensures { (i : ℕ) → i < shape.w + 1 → slice_index_or fluxes.new i (pos 0) ≡ x_flux p.now shape.level shape.row shape.w values.now i j }
 {
-    let at = (j + 1) * (shape.w + 2);
-    face_fluxes(
-        share,
-        &values[at..at + shape.w + 1],
-        &values[at + 1..at + shape.w + 2],
-        &mut fluxes[0..shape.w + 1],
-    );
+    let count = shape.w + 1;
+    let low = row_part(shape, values, 0, j + 1, count);
+    let high = row_part(shape, values, 1, j + 1, count);
+    face_fluxes(share, low, high, &mut fluxes[0..count]);
 }
 
 /// Whether a cell is marked, by its place; none is where there are no marks.

@@ -1,6 +1,6 @@
 //! The fluxes through rows of y faces.
 
-ghost use Rattle.std.specs.Prelude.{◌≡◌, ℕ, ◌+◌, ◌*◌, ◌≤◌, ◌<◌, ◌^◌, Bool, ◌&&◌, cond, nat_eq, false, true};
+ghost use Rattle.std.specs.Prelude.{◌≡◌, ℕ, ◌+◌, ◌*◌, ◌≤◌, ◌<◌, ◌^◌, ◌&&◌, cond, nat_eq, false, true};
 ghost use Rattle.std.specs.Prelude.{length, pos, ◌-ℤ◌, slice_index, slice_index_or, unsigned_abs};
 ghost use Rattle.amr_def.specs.Domain.{columns};
 ghost use Rattle.amr_def.specs.Flux.{flow};
@@ -11,13 +11,13 @@ ghost use Rattle.amr_flux.specs.Tables.{AreYSmall, count_below, value, y_flux, y
 
 use crate::columns::Columns;
 use crate::rows::face_fluxes;
-use crate::shape::{Shape, y_share};
+use crate::shape::{Shape, column_share};
+use crate::tables::row_part;
 use crate::x_faces::is_marked;
 use amr_def::Problem;
-use amr_faces::{Factors, Share};
+use amr_faces::Factors;
 
 /// Makes the factors of a patch's columns, where each column has a Courant number of its own.
-#[tactic(auto, using(amr_faces::proofs::Numbers::y_slow))]
 pub(crate) fn set_columns(p: &Problem, shape: Shape, factors: &mut Columns)
     requires level { shape.level ≤ 4 }
     requires inside { shape.column + shape.w ≤ columns p.now shape.level }
@@ -34,7 +34,7 @@ pub(crate) fn set_columns(p: &Problem, shape: Shape, factors: &mut Columns)
     let mut share = shape.y;
     let mut limit = 2147483648;
     for i in 0..shape.w {
-        share = share.with(p.y_courant(shape.level, shape.column + i as u32), p.d);
+        share = column_share(p, shape, i, share);
         let pair = share.factors();
         factors.low[i] = pair.low;
         factors.high[i] = pair.high;
@@ -44,7 +44,6 @@ pub(crate) fn set_columns(p: &Problem, shape: Shape, factors: &mut Columns)
 }
 
 /// The flux through a y face of column `i` between these values: by the column's factors where these do.
-#[tactic(auto, using(amr_faces::proofs::Numbers::y_slow))]
 fn y_face(p: &Problem, shape: Shape, factors: &Columns, i: usize, low: u32, high: u32) -> i32
     requires level { shape.level ≤ 4 }
     requires inside { shape.column + shape.w ≤ columns p.now shape.level }
@@ -60,7 +59,7 @@ fn y_face(p: &Problem, shape: Shape, factors: &Columns, i: usize, low: u32, high
             return factors.at(i).flow(low, high);
         }
     }
-    y_share(p, shape.level, shape.column + i as u32, shape.y).flow(low, high)
+    column_share(p, shape, i, shape.y).flow(low, high)
 }
 
 /// The fluxes through faces between these cells, by factors of their own.
@@ -152,16 +151,9 @@ pub(crate) fn y_row(
     requires high_small { (i : ℕ) → i < shape.w → value shape.w values.now (i + 1) (j + 1) < 2147483648 }
     ensures { (i : ℕ) → i < shape.w → slice_index_or fluxes.new i (pos 0) ≡ y_flux p.now shape.level shape.column shape.w values.now i j }
 {
-    let low = j * (shape.w + 2) + 1;
-    let high = (j + 1) * (shape.w + 2) + 1;
-    y_fluxes(
-        p,
-        shape,
-        &values[low..low + shape.w],
-        &values[high..high + shape.w],
-        factors,
-        &mut fluxes[0..shape.w],
-    );
+    let low = row_part(shape, values, 1, j, shape.w);
+    let high = row_part(shape, values, 1, j + 1, shape.w);
+    y_fluxes(p, shape, low, high, factors, &mut fluxes[0..shape.w]);
 }
 
 /// Makes the factors where they are wanted.

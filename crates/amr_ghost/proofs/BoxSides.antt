@@ -19,7 +19,7 @@ use Rattle.amr_ghost.specs.Strips.{step}
 use Rattle.amr_ghost.specs.Frames.{AreInDomain, is_beside}
 use Rattle.amr_ghost.specs.declared.sides.Side.{Side}
 use Rattle.amr_ghost.specs.declared.sides.Side.TheVariants.{East, North, South, West}
-use Rattle.amr_ghost.specs.Filling.{HasGhosts, IsGhostStrip, LiesInDomain, side_axis, side_count, side_from, size_along}
+use Rattle.amr_ghost.specs.Filling.{IsGhostStrip, LiesInDomain, side_axis, side_count, side_from, size_along}
 
 le_self : (z : ℤ) → int_le z z ≡ true
 le_self z = grind (arith, ints)
@@ -145,13 +145,6 @@ side_few d b West h = few b.lo.y b.hi.y d.rows h.south h.north
 side_few d b East h = few b.lo.y b.hi.y d.rows h.south h.north
 side_few d b South h = few b.lo.x b.hi.x d.columns h.west h.east
 side_few d b North h = few b.lo.x b.hi.x d.columns h.west h.east
-
-pub side_values : (value : Cell → ℕ) (mark : Cell → Bool) (q : Patch) (axis : Axis) (from : Cell) (count : ℕ) (b : Extent) (side : Side) → box q ≡ b → axis ≡ side_axis side → from ≡ side_from b side → count ≡ side_count b side → HasGhosts value mark q axis from count → HasGhosts value mark q (side_axis side) (side_from (box q) side) (side_count (box q) side)
-side_values value mark q axis from count b side same a f n h =
-    let one = subst (λ (t : Axis). HasGhosts value mark q t from count) a h in
-    let two = subst (λ (t : Cell). HasGhosts value mark q (side_axis side) t count) f one in
-    let all = subst (λ (t : ℕ). HasGhosts value mark q (side_axis side) (side_from b side) t) n two in
-    subst (λ (t : Extent). HasGhosts value mark q (side_axis side) (side_from t side) (side_count t side)) (sym same) all
 
 -- ---- a cell beside a box is one of a side
 

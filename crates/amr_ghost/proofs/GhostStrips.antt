@@ -1,5 +1,5 @@
 -- Ghost cells along a strip that have their values: none yet, fewer, and still.
-use Rattle.std.proofs.Common.{◌≡◌, ℕ, ◌<◌, ◌≤◌, Bool, List, length, get_or, IsTrue, ◌∙◌, arith}
+use Rattle.std.proofs.Common.{◌≡◌, ℕ, ◌<◌, Bool, List, length, get_or, IsTrue, ◌∙◌}
 use Rattle.std.specs.List.{AllZip}
 use Rattle.std.proofs.lemmas.List.Elements.{AllZip-get_or}
 use Rattle.amr_box.specs.declared.Cell.{Cell}
@@ -9,12 +9,6 @@ use Rattle.amr_patch.specs.Places.{in_frame}
 use Rattle.amr_patch.specs.Patches.{box}
 use Rattle.amr_ghost.specs.Strips.{step}
 use Rattle.amr_ghost.specs.Filling.{AreGiven, HasGhosts, KeepsGhosts}
-
-pub no_ghosts : (value : Cell → ℕ) (mark : Cell → Bool) (q : Patch) (axis : Axis) (c : Cell) → HasGhosts value mark q axis c 0
-no_ghosts value mark q axis c = record { at = λ k h. absurd (omega arith) }
-
-pub fewer_ghosts : (value : Cell → ℕ) (mark : Cell → Bool) (q : Patch) (axis : Axis) (c : Cell) (k n : ℕ) → n ≤ k → HasGhosts value mark q axis c k → HasGhosts value mark q axis c n
-fewer_ghosts value mark q axis c k n below h = record { at = λ m t. h.at m (omega arith) }
 
 pub still_ghosts : (value : Cell → ℕ) (mark : Cell → Bool) (qs rs : List Patch) (i : ℕ) (q e : Patch) (axis : Axis) (c : Cell) (n : ℕ) → i < length qs → AllZip (KeepsGhosts value mark) qs rs → ((m : ℕ) → m < n → IsTrue (in_frame (box (get_or qs i q)) (step axis c m))) → HasGhosts value mark (get_or qs i q) axis c n → HasGhosts value mark (get_or rs i e) axis c n
 still_ghosts value mark qs rs i q e axis c n there kept ghosts h = record { at = λ m t. (AllZip-get_or (KeepsGhosts value mark) qs rs i q e kept there).at (step axis c m) (ghosts m t) (h.at m t) }

@@ -24,3 +24,4 @@ pub mod OuterGiven
 pub mod Unpacking
 pub mod Parting
 pub mod PartLaws
+pub mod WholeFrames

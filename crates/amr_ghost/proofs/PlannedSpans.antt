@@ -1,36 +1,31 @@
 -- Spans of ghost cells: what a look-up tells of one, what its values are, and that spans together have each ghost cell.
-use Rattle.std.proofs.Common.{◌≡◌, ℕ, ◌+◌, ◌-◌, ◌/◌, ◌<◌, ◌≤◌, Bool, true, false, ℤ, pos, ◌+ℤ◌, ◌<ℤ◌, List, [], ◌∷◌, ◌++◌, length, get_or, IsTrue, refl, sym, ap, subst, ◌∙◌, arith, below_more}
+use Rattle.std.proofs.Common.{◌≡◌, ℕ, ◌+◌, ◌-◌, ◌<◌, ◌≤◌, Bool, true, false, ℤ, pos, ◌+ℤ◌, ◌<ℤ◌, List, [], ◌∷◌, ◌++◌, length, get_or, refl, sym, ap, subst, ◌∙◌, arith}
 use Rattle.std.specs.Prelude.{nat_lt}
-use Rattle.std.specs.List.{All, AllZip, Any}
+use Rattle.std.specs.List.{Any}
 use Rattle.std.proofs.lemmas.Bool.Decides.{nat_tests}
 use Rattle.std.proofs.lemmas.Int.{ints}
-use Rattle.std.proofs.lemmas.List.{get_or_append_left, get_or_default, length-append}
+use Rattle.std.proofs.lemmas.List.{get_or_append_left, length-append}
 use Rattle.std.proofs.lemmas.List.Quantifiers.{Any-push}
 use Rattle.amr_box.specs.declared.Cell.{Cell}
 use Rattle.amr_box.specs.declared.Axis.{Axis}
-use Rattle.amr_box.specs.Cells.{Extent, IsNear, along, parent}
+use Rattle.amr_box.specs.Cells.{Extent, IsNear, along}
 use Rattle.amr_def.specs.declared.problem.Problem.{Problem}
 use Rattle.amr_def.specs.Domain.{Domain, domain, home_cell, in_domain}
-use Rattle.amr_def.specs.State.{Masses, mass_of}
-use Rattle.amr_def.specs.Value.{value_at}
 use Rattle.amr_patch.specs.declared.patches.Patch.{Patch}
-use Rattle.amr_patch.specs.Patches.{box, in_patches, masses_in}
+use Rattle.amr_patch.specs.Patches.{box, in_patches}
 use Rattle.amr_patch.specs.Orders.{IsHolder}
 use Rattle.amr_ghost.specs.Strips.{HasRoom, step}
-use Rattle.amr_ghost.specs.Filling.{AreGiven, HasFrame, HasGhost, HasGhosts, IsGhostStrip, KeepsCells, KeepsValues, side_axis, side_count, side_from}
-use Rattle.amr_ghost.specs.Plans.{HasCell, HasSpan, HaveFrame, HaveStrip, IsSource, IsSpan, KeepSpans, StandForHeld, StandInGap, PlansFrames}
-use Rattle.amr_ghost.specs.Frames.{is_beside, is_of_level}
+use Rattle.amr_ghost.specs.Filling.{IsGhostStrip, side_axis, side_count, side_from}
+use Rattle.amr_ghost.specs.Plans.{HasCell, HaveFrame, HaveStrip, IsSource, IsSpan, KeepSpans, StandForHeld, StandInGap}
 use Rattle.amr_ghost.specs.declared.sides.Side.{Side}
 use Rattle.amr_ghost.specs.declared.sides.Side.TheVariants.{East, North, South, West}
 use Rattle.amr_ghost.specs.declared.sides.Strip.{Strip}
 use Rattle.amr_ghost.specs.declared.sources.Source.{Source}
 use Rattle.amr_ghost.specs.declared.sources.Span.{Span}
-use Rattle.amr_ghost.specs.declared.plan.FramePlan.{FramePlan}
 use Rattle.amr_ghost.proofs.BoxSides.{beside_of, high_inside, parts_of}
 use Rattle.amr_ghost.proofs.Homes.{step_step}
-use Rattle.amr_ghost.proofs.Levels.{few_along, same_values, still_values}
+use Rattle.amr_ghost.proofs.Levels.{few_along}
 use Rattle.amr_ghost.proofs.Spans.{room_inside, span_held}
-use Rattle.amr_ghost.proofs.Zips.{zip_box}
 use Rattle.amr_box.specs.declared.Axis.TheVariants.{X, Y}
 
 -- ---- what a look-up tells
@@ -88,19 +83,6 @@ module _ (d : Domain) (ps : List Patch) (i : ℕ) (s t : Strip) (axis : t.axis �
 -- a strip that goes on from a later cell
 pub further : (axis : Axis) (c c' : Cell) (done k : ℕ) → c' ≡ step axis c done → step axis c' k ≡ step axis c (done + k)
 further axis c c' done k is = ap (λ (s : Cell). step axis s k) is ∙ step_step axis c done k
-
--- what holds of the cells of a strip beside a patch holds of those from a later one on
-pub rest_cells : (P : Extent → Cell → Bool) (ps qs : List Patch) (i : ℕ) (axis : Axis) (c c' : Cell) (count done : ℕ) → AllZip KeepsCells ps qs → i < length ps → c' ≡ step axis c done → ((q : Patch) (k : ℕ) → k < count → IsTrue (P (box (get_or ps i q)) (step axis c k))) → (q : Patch) (k : ℕ) → k < count - done → IsTrue (P (box (get_or qs i q)) (step axis c' k))
-rest_cells P ps qs i axis c c' count done kept there is h q k lt = subst (λ (b : Extent). IsTrue (P b (step axis c' k))) (sym (zip_box ps qs i q q kept there)) (subst (λ (s : Cell). IsTrue (P (box (get_or ps i q)) s)) (sym (further axis c c' done k is)) (h q (done + k) (omega (arith, lt))))
-
-pub rest_given : (value : Cell → ℕ) (mark : Cell → Bool) (m : Masses) (axis : Axis) (to to' from from' : Cell) (count done n : ℕ) → to' ≡ step axis to done → from' ≡ step axis from done → done + n ≤ count → AreGiven value mark axis to count (λ k. mass_of m (parent (step axis from k)) / 4) false → AreGiven value mark axis to' n (λ k. mass_of m (parent (step axis from' k)) / 4) false
-rest_given value mark m axis to to' from from' count done n is from_is few g = record {
-  values = λ k lt. ap value (further axis to to' done k is) ∙ g.values (done + k) (omega (arith, lt, few)) ∙ ap (λ (s : Cell). mass_of m (parent s) / 4) (sym (further axis from from' done k from_is));
-  marks = λ k lt. ap mark (further axis to to' done k is) ∙ g.marks (done + k) (omega (arith, lt, few));
-}
-
-pub ghosts_there : (value : Cell → ℕ) (mark : Cell → Bool) (rs : List Patch) (i j : ℕ) (q : Patch) (a b : Axis) (c e : Cell) (n : ℕ) → i ≡ j → a ≡ b → c ≡ e → HasGhosts value mark (get_or rs i q) a c n → HasGhosts value mark (get_or rs j q) b e n
-ghosts_there value mark rs i j q a b c e n same axis from h = rw (← same, ← axis, ← from) h
 
 -- ---- spans one after the other
 
@@ -164,32 +146,3 @@ whole_spans ps ss i west east south north = record { at = λ q c h. beside_of (�
 
 pub still_whole : (ps : List Patch) (ss ts : List Span) (i : ℕ) → KeepSpans ss ts → HaveFrame ps ss i → HaveFrame ps ts i
 still_whole ps ss ts i kept h = record { at = λ q c t. kept.at i c (h.at q c t) }
-
--- ---- frames filled span by span
-
--- the spans so far have their values, and so has the next one
-pub next_span : (p : Problem) (l : ℕ) (old : Masses) (ps qs rs : List Patch) (ss : List Span) (k : ℕ) (d : Span) → k < length ss → AllZip KeepsCells ps qs → KeepsValues p l old qs rs → All (IsSpan (domain p l) ps) ss → ((j : ℕ) (s : Span) → j < k → HasSpan p l (masses_in ps) old qs (get_or ss j s)) → HasSpan p l (masses_in qs) old rs (get_or ss k d) → (j : ℕ) (s : Span) → j < k + 1 → HasSpan p l (masses_in ps) old rs (get_or ss j s)
-next_span p l old ps qs rs ss k d there kept more spans set one j s h = below_more (λ m. HasSpan p l (masses_in ps) old rs (get_or ss m s)) k earlier this j h
-  where
-    earlier : (m : ℕ) → m < k → HasSpan p l (masses_in ps) old rs (get_or ss m s)
-    earlier m lt q =
-        let u = get_or ss m s in
-        let is = spans m s (omega (arith, lt, there)) in
-        still_values p l old ps qs rs u.patch q q u.strip.axis u.strip.from u.strip.count is.there kept more (is.ghost_strip q).ghosts (set m s lt q)
-
-    this : HasSpan p l (masses_in ps) old rs (get_or ss k s)
-    this = subst (HasSpan p l (masses_in ps) old rs) (get_or_default ss k d s there) (λ q.
-        let u = get_or ss k d in
-        same_values p l old ps qs (get_or rs u.patch q) u.strip.axis u.strip.from u.strip.count kept (one q))
-
--- where all spans have their values, so has each frame
-pub frames_done : (p : Problem) (l : ℕ) (m old : Masses) (ps qs : List Patch) (plan : FramePlan) → AllZip KeepsCells ps qs → PlansFrames (domain p l) ps plan → ((j : ℕ) (s : Span) → j < length plan.spans.items → HasSpan p l m old qs (get_or plan.spans.items j s)) → (k : ℕ) (q : Patch) → k < length ps → HasFrame p l m old (get_or qs k q)
-frames_done p l m old ps qs plan kept planned set k q lt = record { at = λ c h. by_span c ((planned.frames k lt).at q c (subst (λ (b : Extent). IsTrue (is_beside b c)) (zip_box ps qs k q q kept lt) h)) }
-  where
-    by_span : (c : Cell) → Any (HasCell k c) plan.spans.items → HasGhost (value_at p l m old) (is_of_level p l m) (get_or qs k q) c
-    by_span c a =
-        let s = a.1 in
-        let has = a.4 in
-        let values : HasSpan p l m old qs s = subst (HasSpan p l m old qs) a.3 (set a.0 a.1 a.2) in
-        subst (λ (i : ℕ). HasGhost (value_at p l m old) (is_of_level p l m) (get_or qs i q) c) has.of_patch
-        (subst (λ (t : Cell). HasGhost (value_at p l m old) (is_of_level p l m) (get_or qs s.patch q) t) (sym has.is) ((values q).at has.place has.within))

@@ -1,7 +1,6 @@
 -- A span of ghost cells: copied from the patch that has the cells that they stand for, or one that stands for no cell of the level.
-use Rattle.std.proofs.Common.{◌≡◌, ℕ, ◌+◌, ◌-◌, ◌/◌, ◌^◌, ◌<◌, ◌≤◌, Bool, true, false, cond, ℤ, pos, ◌+ℤ◌, ◌≤ℤ◌, ◌<ℤ◌, List, length, get_or, IsTrue, refl, sym, ap, subst, ◌∙◌, arith}
-use Rattle.std.specs.Prelude.{is_some, nat_lt}
-use Rattle.std.proofs.lemmas.Bool.Decides.{nat_tests}
+use Rattle.std.proofs.Common.{◌≡◌, ℕ, ◌+◌, ◌-◌, ◌/◌, ◌^◌, ◌<◌, ◌≤◌, false, cond, ℤ, pos, ◌+ℤ◌, ◌≤ℤ◌, ◌<ℤ◌, List, length, get_or, IsTrue, sym, ap, subst, ◌∙◌, arith}
+use Rattle.std.specs.Prelude.{is_some}
 use Rattle.std.specs.declared.option.Option.{Option}
 use Rattle.std.specs.declared.option.Option.TheVariants.{None, Some}
 use Rattle.std.specs.Option.{unwrap_or}
@@ -23,7 +22,7 @@ use Rattle.amr_patch.proofs.Entries.{in_grown}
 use Rattle.amr_patch.proofs.Lookups.{masses_in-at, same_default}
 use Rattle.amr_ghost.specs.Strips.{HasRoom, step}
 use Rattle.amr_ghost.specs.Frames.{is_of_level}
-use Rattle.amr_ghost.specs.Filling.{AreCopied, HasGhost, HasGhosts, IsGhostStrip, size_along}
+use Rattle.amr_ghost.specs.Filling.{AreCopied, IsGhostStrip, size_along}
 use Rattle.amr_ghost.proofs.Steps.{frame_grown}
 use Rattle.amr_ghost.proofs.Homes.{bounds, held_ahead, home_step, step_step}
 
@@ -118,16 +117,3 @@ rest_of_strip d b b' axis c c' count done same is strip = rw (same, is) (record 
     further : (axis : Axis) (c : Cell) (k : ℕ) → along axis c +ℤ pos (done + k) ≡ along axis (step axis c done) +ℤ pos k
     further X c k = omega (arith, ints)
     further Y c k = omega (arith, ints)
-
-pub joined_ghosts : (value : Cell → ℕ) (mark : Cell → Bool) (q : Patch) (axis : Axis) (c c' : Cell) (done n : ℕ) → c' ≡ step axis c done → HasGhosts value mark q axis c done → HasGhosts value mark q axis c' n → HasGhosts value mark q axis c (done + n)
-joined_ghosts value mark q axis c c' done n is first then = record { at = λ m t. by_place m t (nat_lt m done) refl }
-  where
-    later : (m k : ℕ) → m ≡ done + k → k < n → HasGhost value mark q (step axis c m)
-    later m k e t = rw e (subst (λ (s : Cell). HasGhost value mark q s) (ap (λ (s : Cell). step axis s k) is ∙ step_step axis c done k) (then.at k t))
-
-    by_place : (m : ℕ) → m < done + n → (b : Bool) → nat_lt m done ≡ b → HasGhost value mark q (step axis c m)
-    by_place m t true e = first.at m (grind arith)
-    by_place m t false e = later m (m - done) (below_or e) (omega (arith, below_or e))
-      where
-        below_or : nat_lt m done ≡ false → m ≡ done + (m - done)
-        below_or e = grind (arith, nat_tests)

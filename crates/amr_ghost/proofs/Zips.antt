@@ -1,14 +1,14 @@
 -- Lists of patches, patch by patch: one patch that changes, what is kept over two changes, and what the patches have together.
-use Rattle.std.proofs.Common.{◌≡◌, ℕ, zero, suc, ◌<◌, Bool, true, false, cond, List, [], ◌∷◌, length, set, get_or, map, IsTrue, refl, sym, ap, subst, ◌∙◌, arith}
+use Rattle.std.proofs.Common.{◌≡◌, ℕ, zero, suc, ◌<◌, Bool, true, false, cond, List, [], ◌∷◌, length, set, get_or, map, IsTrue, refl, sym, ap, subst, ◌∙◌}
 use Rattle.std.specs.declared.option.Option.{Option}
 use Rattle.std.specs.declared.option.Option.TheVariants.{Some}
 use Rattle.std.specs.List.{AllZip}
-use Rattle.std.proofs.lemmas.List.Elements.{AllZip-get_or, length_all_zip}
+use Rattle.std.proofs.lemmas.List.Elements.{AllZip-get_or}
 use Rattle.amr_box.specs.declared.Cell.{Cell}
 use Rattle.amr_box.specs.Cells.{Extent, holds}
 use Rattle.amr_patch.specs.declared.patches.Patch.{Patch}
 use Rattle.amr_patch.specs.Places.{in_frame}
-use Rattle.amr_patch.specs.Patches.{ArePatchesApart, box, masses_in, mass_in}
+use Rattle.amr_patch.specs.Patches.{box, mass_in}
 use Rattle.amr_ghost.specs.Frames.{is_corner}
 use Rattle.amr_ghost.specs.Filling.{KeepsCells, KeepsGhosts}
 
@@ -67,31 +67,9 @@ zip_boxes = boxes_of_zip KeepsCells (λ q r h. h.of_box)
 pub zip_box : (ps qs : List Patch) (i : ℕ) (d e : Patch) → AllZip KeepsCells ps qs → i < length ps → box (get_or qs i e) ≡ box (get_or ps i d)
 zip_box ps qs i d e h t = (AllZip-get_or KeepsCells ps qs i d e h t).of_box
 
-pub zip_apart : (ps qs : List Patch) → AllZip KeepsCells ps qs → ArePatchesApart ps → ArePatchesApart qs
-zip_apart ps qs h apart = λ i j d below there c a b.
-    let n : length ps ≡ length qs = length_all_zip KeepsCells ps qs h in
-    let low : i < length ps = omega arith in
-    let high : j < length ps = omega arith in
-    apart i j d below high c (subst (λ (t : Extent). IsTrue (holds t c)) (zip_box ps qs i d d h low) a) (subst (λ (t : Extent). IsTrue (holds t c)) (zip_box ps qs j d d h high) b)
-
 pub mass_cases : (t : Bool) (a b : ℕ) (x y : Option ℕ) → (t ≡ true → b ≡ a) → y ≡ x → cond t (Some b) y ≡ cond t (Some a) x
 mass_cases true a b x y e f = ap Some (e refl)
 mass_cases false a b x y e f = f
-
-zip_mass : (ps qs : List Patch) (c : Cell) → AllZip KeepsCells ps qs → masses_in qs c ≡ masses_in ps c
-zip_mass [] [] c h = refl
-zip_mass [] (q ∷ qs) c h = absurd h
-zip_mass (p ∷ ps) [] c h = absurd h
-zip_mass (p ∷ ps) (q ∷ qs) c h =
-    ap (λ (b : Extent). cond (holds b c) (Some (mass_in q c)) (masses_in qs c)) h.0.of_box
-    ∙ mass_cases (holds (box p) c) (mass_in p c) (mass_in q c) (masses_in ps c) (masses_in qs c) (λ t. h.0.masses c t) (zip_mass ps qs c h.1)
-
-pub zip_masses : (ps qs : List Patch) → AllZip KeepsCells ps qs → masses_in qs ≡ masses_in ps
-zip_masses ps qs h i c = zip_mass ps qs c h i
-
--- and a cell of its frame
-pub still_ghost : (ps qs : List Patch) (i : ℕ) (d e : Patch) (c c' : Cell) → AllZip KeepsCells ps qs → i < length ps → c' ≡ c → IsTrue (in_frame (box (get_or ps i d)) c) → IsTrue (in_frame (box (get_or qs i e)) c')
-still_ghost ps qs i d e c c' h there is t = rw (is, zip_box ps qs i d e h there) t
 
 -- and the mass of a cell stays
 pub still_mass : (ps qs : List Patch) (i : ℕ) (d e : Patch) (c c' : Cell) → AllZip KeepsCells ps qs → i < length ps → c' ≡ c → IsTrue (holds (box (get_or ps i d)) c) → mass_in (get_or qs i e) c' ≡ mass_in (get_or ps i d) c

@@ -1,7 +1,6 @@
 -- What stays and what is gained while frames are filled, a cell at a time.
 use Rattle.std.specs.Prelude.{◌≡◌, ◌≢◌, ℕ, ◌<◌, Bool, true, pos, ◌+ℤ◌, ◌-ℤ◌, ◌≤ℤ◌, ◌<ℤ◌, List, IfSome, IsTrue}
 use Rattle.std.specs.declared.option.Option.{Option}
-use Rattle.std.specs.List.{AllZip}
 use Rattle.amr_box.specs.declared.Cell.{Cell}
 use Rattle.amr_box.specs.declared.Axis.{Axis}
 use Rattle.amr_box.specs.declared.Axis.TheVariants.{X, Y}
@@ -12,7 +11,7 @@ use Rattle.amr_def.specs.State.{Masses}
 use Rattle.amr_def.specs.Value.{value_at}
 use Rattle.amr_patch.specs.declared.patches.Patch.{Patch}
 use Rattle.amr_patch.specs.Places.{grown, in_frame}
-use Rattle.amr_patch.specs.Patches.{ArePatchesApart, SameFluxes, box, mark_in, mass_in, masses_in, value_in}
+use Rattle.amr_patch.specs.Patches.{ArePatchesApart, SameFluxes, box, mark_in, mass_in, value_in}
 use Rattle.amr_patch.specs.declared.lookup.Order.{Order}
 use Rattle.amr_patch.specs.Orders.{IsOrderOf}
 use Rattle.amr_patch.specs.declared.gaps.Starts.{Starts}
@@ -83,14 +82,6 @@ pub record IsLevelInOrder (d : Domain) (o : Order) (starts : Option Starts) (ps 
   pub inside : AreInDomain d ps
   pub starting : IfSome starts (HasStarts ps)
 
--- the ghost cells of the patches that have the value and the mark of their cell keep them
-abbrev pub KeepsValues : Problem → ℕ → Masses → List Patch → List Patch → Type 0
-KeepsValues p l old ps qs = AllZip (KeepsGhosts (value_at p l (masses_in ps) old) (is_of_level p l (masses_in ps))) ps qs
-
--- the first ghost cells of a strip have the value and the mark of their cell
-abbrev pub HasValues : Problem → ℕ → Masses → Masses → Patch → Axis → Cell → ℕ → Type 0
-HasValues p l m old q axis c count = HasGhosts (value_at p l m old) (is_of_level p l m) q axis c count
-
 -- the cells along a side of a box: where they begin, the axis that they go along, and how many there are
 abbrev pub side_axis : Side → Axis
 side_axis West = Y
@@ -109,9 +100,6 @@ side_count b West = height b
 side_count b East = height b
 side_count b South = width b
 side_count b North = width b
-
-abbrev pub HasSideValues : Problem → ℕ → Masses → Masses → Patch → Side → Type 0
-HasSideValues p l m old q side = HasValues p l m old q (side_axis side) (side_from (box q) side) (side_count (box q) side)
 
 -- the ghost cells beside a patch have the value and the mark of their cell
 pub record HasFrame (p : Problem) (l : ℕ) (m old : Masses) (q : Patch) : Type 0 where

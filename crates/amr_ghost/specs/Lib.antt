@@ -5,3 +5,4 @@ pub mod Plans
 pub mod Parts
 pub mod Outer
 pub mod Messages
+pub mod Fills

@@ -7,14 +7,12 @@ use Rattle.amr_causes.specs.declared.no_memory.NoMemory.{NoMemory}
 use Rattle.amr_box.specs.declared.Cell.{Cell}
 use Rattle.amr_box.specs.declared.Axis.{Axis}
 use Rattle.amr_box.specs.Cells.{holds}
-use Rattle.amr_def.specs.declared.problem.Problem.{Problem}
 use Rattle.amr_def.specs.Domain.{Domain, home_cell, in_domain}
-use Rattle.amr_def.specs.State.{Masses}
 use Rattle.amr_patch.specs.declared.patches.Patch.{Patch}
 use Rattle.amr_patch.specs.Patches.{box, in_patches}
 use Rattle.amr_ghost.specs.Strips.{HasRoom, step}
 use Rattle.amr_ghost.specs.Frames.{is_beside}
-use Rattle.amr_ghost.specs.Filling.{HasValues, IsGhostStrip}
+use Rattle.amr_ghost.specs.Filling.{IsGhostStrip}
 use Rattle.amr_ghost.specs.declared.sides.Strip.{Strip}
 use Rattle.amr_ghost.specs.declared.sources.Source.{Source}
 use Rattle.amr_ghost.specs.declared.sources.Source.TheVariants.{Beside, Coarser, Outside}
@@ -83,7 +81,3 @@ ArePlannedRuns d ps size runs =
 pub record PlansFrames (d : Domain) (ps : List Patch) (plan : FramePlan) : Type 0 where
   pub spans : All (IsSpan d ps) plan.spans.items
   pub frames : (i : ℕ) → i < length ps → HaveFrame ps plan.spans.items i
-
--- the ghost cells of a span have the value and the mark of their cell
-abbrev pub HasSpan : Problem → ℕ → Masses → Masses → List Patch → Span → Type 0
-HasSpan p l m old qs s = (q : Patch) → HasValues p l m old (slice_index_or qs s.patch q) s.strip.axis s.strip.from s.strip.count

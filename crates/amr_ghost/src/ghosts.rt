@@ -1,9 +1,9 @@
 //! Ghost cells of a patch, given their values.
 
-ghost use Rattle.std.specs.Prelude.{◌≡◌, ℕ, ◌/◌, ◌<◌, ◌≤◌, length, slice_index, slice_index_or, false, true, Bool, IsTrue};
+ghost use Rattle.std.specs.Prelude.{◌≡◌, ℕ, ◌/◌, ◌<◌, ◌≤◌, length, slice_index, slice_index_or, true, Bool, IsTrue};
 ghost use Rattle.std.specs.List.{AllZip};
 ghost use Rattle.amr_box.specs.declared.Cell.{Cell};
-ghost use Rattle.amr_box.specs.Cells.{holds, parent};
+ghost use Rattle.amr_box.specs.Cells.{holds};
 ghost use Rattle.amr_patch.specs.declared.patches.Patch.{Patch};
 ghost use Rattle.amr_patch.specs.Places.{in_frame};
 ghost use Rattle.amr_patch.specs.Patches.{box, mass_in};
@@ -12,43 +12,11 @@ ghost use Rattle.amr_ghost.specs.Frames.{is_beside};
 ghost use Rattle.amr_ghost.specs.Filling.{AreCopied, AreGhostsSet, AreGiven, HasGhosts, KeepsCells, KeepsGhosts};
 
 use crate::entries::{
-    copy_entries, copy_within_list, entries_of, fill_entries, give_entries, quarter_entries,
-    take_entries,
+    copy_entries, copy_within_list, entries_of, fill_entries, give_entries, take_entries,
 };
-use crate::places::odd_along;
 use crate::sides::Strip;
-use amr_box::{Axis, Cell, parent};
+use amr_box::{Axis, Cell};
 use amr_patch::Patch;
-
-/// Gives the ghost cells of a strip one value. None is marked as a cell of the level.
-#[inline(always)]
-fn set_ghosts(patch: &mut Patch, strip: Strip, value: u32)
-    requires some { 0 < strip.count }
-    requires ghost_cells { (k : ℕ) → k < strip.count → IsTrue (in_frame (box patch.old) (step strip.axis strip.from k)) }
-    ensures { AreGhostsSet patch.old patch.new strip.axis strip.from strip.count (λ k. value) false }
-{
-    let count = strip.count as usize;
-    let target = entries_of(&patch.bx(), strip.axis, strip.from);
-    let data = &mut *patch.data;
-    fill_entries(&mut data.values, target, count, value);
-    fill_entries(&mut data.marks, target, count, false);
-}
-
-/// Gives the ghost cells of a strip beside patch `i` one value. None is marked as a cell of the level.
-pub(crate) fn set_strip(patches: &mut [Patch], i: usize, strip: Strip, value: u32)
-    requires there { i < length patches.old }
-    requires some { 0 < strip.count }
-    requires small { strip.count ≤ 8192 }
-    requires ghost_cells { (q : Patch) (k : ℕ) → k < strip.count → IsTrue (in_frame (box (slice_index_or patches.old i q)) (step strip.axis strip.from k)) }
-    requires beside { (q : Patch) (k : ℕ) → k < strip.count → IsTrue (is_beside (box (slice_index_or patches.old i q)) (step strip.axis strip.from k)) }
-    ensures kept { AllZip KeepsCells patches.old patches.new }
-    ensures ghosts { (value_of : Cell → ℕ) (mark : Cell → Bool) → AreGiven value_of mark strip.axis strip.from strip.count (λ k. value) false
-        → AllZip (KeepsGhosts value_of mark) patches.old patches.new }
-    ensures set { (value_of : Cell → ℕ) (mark : Cell → Bool) (q : Patch) → AreGiven value_of mark strip.axis strip.from strip.count (λ k. value) false
-        → HasGhosts value_of mark (slice_index_or patches.new i q) strip.axis strip.from strip.count }
-{
-    set_ghosts(&mut patches[i], strip, value);
-}
 
 /// Gives the ghost cells of a strip a value each, and marks all or none of them as cells of the level.
 #[inline(always)]
@@ -87,58 +55,6 @@ pub(crate) fn give_strip(
         → HasGhosts value mark (slice_index_or patches.new i q) strip.axis strip.from strip.count }
 {
     give_ghosts(&mut patches[i], strip, values, of_level);
-}
-
-/// Gives the ghost cells of a strip quarters of masses of a coarser patch. None is marked as a cell of the level. The masses are
-/// those of the parents of as many cells along the same axis, from a cell on.
-#[inline(always)]
-fn quarter_ghosts(patch: &mut Patch, strip: Strip, source: &Patch, from: Cell)
-    requires some { 0 < strip.count }
-    requires ghost_cells { (k : ℕ) → k < strip.count → IsTrue (in_frame (box patch.old) (step strip.axis strip.from k)) }
-    requires masses { (k : ℕ) → k < strip.count → IsTrue (holds (box source.now) (parent (step strip.axis from k))) }
-    ensures { AreGhostsSet patch.old patch.new strip.axis strip.from strip.count (λ k. mass_in source.now (parent (step strip.axis from k)) / 4) false }
-{
-    let count = strip.count as usize;
-    let parents = entries_of(&source.bx(), strip.axis, parent(from));
-    let skipped = odd_along(strip.axis, from) as usize;
-    let children = entries_of(&patch.bx(), strip.axis, strip.from);
-    let held = &*source.data;
-    let data = &mut *patch.data;
-    quarter_entries(
-        &held.values,
-        parents,
-        skipped,
-        &mut data.values,
-        children,
-        count,
-    );
-    fill_entries(&mut data.marks, children, count, false);
-}
-
-/// Gives the ghost cells of a strip beside patch `i` quarters of masses of a coarser patch. None is marked as a cell of the level. The
-/// masses are those of the parents of as many cells along the same axis, from a cell on.
-pub(crate) fn quarter_strip(
-    patches: &mut [Patch],
-    i: usize,
-    strip: Strip,
-    source: &Patch,
-    from: Cell,
-)
-    requires there { i < length patches.old }
-    requires some { 0 < strip.count }
-    requires small { strip.count ≤ 8192 }
-    requires ghost_cells { (q : Patch) (k : ℕ) → k < strip.count → IsTrue (in_frame (box (slice_index_or patches.old i q)) (step strip.axis strip.from k)) }
-    requires beside { (q : Patch) (k : ℕ) → k < strip.count → IsTrue (is_beside (box (slice_index_or patches.old i q)) (step strip.axis strip.from k)) }
-    requires masses { (k : ℕ) → k < strip.count → IsTrue (holds (box source.now) (parent (step strip.axis from k))) }
-    ensures kept { AllZip KeepsCells patches.old patches.new }
-    ensures ghosts { (value : Cell → ℕ) (mark : Cell → Bool)
-        → AreGiven value mark strip.axis strip.from strip.count (λ k. mass_in source.now (parent (step strip.axis from k)) / 4) false
-        → AllZip (KeepsGhosts value mark) patches.old patches.new }
-    ensures set { (value : Cell → ℕ) (mark : Cell → Bool) (q : Patch)
-        → AreGiven value mark strip.axis strip.from strip.count (λ k. mass_in source.now (parent (step strip.axis from k)) / 4) false
-        → HasGhosts value mark (slice_index_or patches.new i q) strip.axis strip.from strip.count }
-{
-    quarter_ghosts(&mut patches[i], strip, source, from);
 }
 
 /// Gives the ghost cells of a strip masses of another patch, and marks them as cells of the level. The masses are those of as

@@ -2,7 +2,7 @@
 #![tactic(auto)]
 
 mod entries;
-mod filling;
+mod fills;
 mod gap_cells;
 mod ghosts;
 mod lookup;
@@ -12,16 +12,14 @@ mod outside;
 mod parts;
 mod places;
 mod plan;
-mod planned;
 mod runs;
 mod sides;
 mod sources;
 
-pub use filling::{fill, fill_in_order};
+pub use fills::{FrameSources, fill, find_sources};
 pub use messages::{Message, fill_run, pack_messages};
 pub use outer::OuterGhosts;
 pub use parts::{FrameCopy, FrameParts, part_frames};
 pub use plan::{FramePlan, plan_frames};
-pub use planned::fill_planned;
 pub use runs::plan_frames_in_threads;
 pub use sources::Span;

@@ -12,33 +12,22 @@ pub(crate) struct Target<'a> {
     pub(crate) patch: usize,
 }
 
-/// The patches that served last: of the level, and of the next coarser one. That one or the next is mostly the one for the same
+/// Where the look-ups for each side of a patch begin: at the patch that served last. That one or the next is mostly the one for the same
 /// side of the next patch, so that few look-ups search.
 #[derive(Clone, Copy, Debug)]
-pub(crate) struct Near {
-    pub(crate) level: usize,
-    pub(crate) coarser: usize,
-}
-
-/// Where the look-ups for each side of a patch begin.
-#[derive(Clone, Copy, Debug)]
 pub(crate) struct NearSides {
-    pub(crate) west: Near,
-    pub(crate) east: Near,
-    pub(crate) south: Near,
-    pub(crate) north: Near,
+    pub(crate) west: usize,
+    pub(crate) east: usize,
+    pub(crate) south: usize,
+    pub(crate) north: usize,
 }
 
 /// Look-ups that begin with the first patch.
 pub(crate) fn near_first() -> NearSides {
-    let first = Near {
-        level: 0,
-        coarser: 0,
-    };
     NearSides {
-        west: first,
-        east: first,
-        south: first,
-        north: first,
+        west: 0,
+        east: 0,
+        south: 0,
+        north: 0,
     }
 }

@@ -1,6 +1,6 @@
 //! Plans of frames: where each ghost cell gets its value from, worked out once for boxes that stay.
 
-ghost use Rattle.std.specs.Prelude.{◌≡◌, ℕ, ◌<◌, ◌≤◌, length, slice_index_or, IfOk, OnOk};
+ghost use Rattle.std.specs.Prelude.{◌<◌, ◌≤◌, length, slice_index_or, IfOk, OnOk};
 ghost use Rattle.std.specs.Option.{option_copied};
 ghost use Rattle.std.specs.List.{All};
 ghost use Rattle.amr_def.specs.Domain.{domain};
@@ -102,24 +102,10 @@ fn plan_frame(
     ensures kept { OnOk result (KeepSpans spans.old.items spans.new.items) }
     ensures made { OnOk result (HaveFrame patches.now spans.new.items target.entry.patch) }
 {
-    plan_side(p, patches, target, Side::West, &mut near.west.level, spans)?;
-    plan_side(p, patches, target, Side::East, &mut near.east.level, spans)?;
-    plan_side(
-        p,
-        patches,
-        target,
-        Side::South,
-        &mut near.south.level,
-        spans,
-    )?;
-    plan_side(
-        p,
-        patches,
-        target,
-        Side::North,
-        &mut near.north.level,
-        spans,
-    )
+    plan_side(p, patches, target, Side::West, &mut near.west, spans)?;
+    plan_side(p, patches, target, Side::East, &mut near.east, spans)?;
+    plan_side(p, patches, target, Side::South, &mut near.south, spans)?;
+    plan_side(p, patches, target, Side::North, &mut near.north, spans)
 }
 
 /// Where the ghost cells beside the patches of a level get their values from, for those from the target's on to before patch `to`.

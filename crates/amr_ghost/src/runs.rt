@@ -1,7 +1,6 @@
 //! Plans of frames worked out in threads: each for a run of patches.
 
-ghost use Rattle.std.specs.Prelude.{◌≡◌, ℕ, ◌+◌, ◌*◌, ◌<◌, ◌≤◌, List, length, IfOk};
-ghost use Rattle.std.specs.Option.{option_copied};
+ghost use Rattle.std.specs.Prelude.{ℕ, ◌+◌, ◌*◌, ◌<◌, ◌≤◌, List, length, IfOk};
 ghost use Rattle.std.specs.declared.option.Option.TheVariants.{Some};
 ghost use Rattle.amr_def.specs.Domain.{Domain, domain};
 ghost use Rattle.amr_patch.specs.declared.patches.Patch.{Patch};

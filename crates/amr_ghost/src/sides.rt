@@ -1,7 +1,7 @@
 //! The sides of a box, and the cells along them.
 
-ghost use Rattle.std.specs.Prelude.{◌≡◌, ◌≤◌};
-ghost use Rattle.amr_box.specs.Cells.{IsNear, IsProper};
+ghost use Rattle.std.specs.Prelude.{◌≡◌};
+ghost use Rattle.amr_box.specs.Cells.{IsNear};
 ghost use Rattle.amr_ghost.specs.Strips.{HasRoom};
 ghost use Rattle.amr_ghost.specs.Filling.{side_axis, side_count, side_from};
 

@@ -1,8 +1,8 @@
 -- The layout of a level goes by boxes: two levels on the same ones have the same places, puts, reads and flows, whatever their
 -- masses are.
-use Rattle.std.proofs.Common.{◌≡◌, ◌∙◌, ℕ, Bool, true, false, refl, suc, ◌+◌, ◌-◌, ◌*◌, ◌<◌, ◌&&◌, not, cond, pos, int_lt, List, ◌++◌, length, [], ◌∷◌, get_or, map, take, sym, ap, subst, arith}
-use Rattle.std.specs.Prelude.{Contains, IsTrue, is_some}
-use Rattle.std.specs.List.{All, AllZip, flat_map, position_or_len, range_with_len}
+use Rattle.std.proofs.Common.{◌≡◌, ◌∙◌, ℕ, Bool, true, false, refl, suc, ◌+◌, ◌-◌, ◌*◌, ◌&&◌, ◌||◌, not, cond, pos, int_lt, List, ◌++◌, length, [], ◌∷◌, map, take, sym, ap}
+use Rattle.std.specs.Prelude.{is_some}
+use Rattle.std.specs.List.{flat_map, position_or_len, range_with_len}
 use Rattle.std.specs.Ordering.{int_eq}
 use Rattle.std.proofs.lemmas.List.{take-map}
 use Rattle.std.proofs.lemmas.List.Folds.{flat_map-map}
@@ -10,20 +10,17 @@ use Rattle.std.proofs.lemmas.Simd.{map-map}
 use Rattle.amr_box.specs.declared.Cell.{Cell}
 use Rattle.amr_box.specs.declared.Face.{Face}
 use Rattle.amr_box.specs.Cells.{Extent, has_child_where, height, holds, parent, width}
-use Rattle.amr_def.specs.declared.problem.Problem.{Problem}
 use Rattle.amr_def.specs.Domain.{Domain, domain, home_cell, in_domain}
 use Rattle.amr_def.specs.Flux.{high_cell}
 use Rattle.amr_def.specs.State.{is_covered}
 use Rattle.amr_patch.specs.declared.patches.Patch.{Patch}
 use Rattle.amr_patch.specs.Patches.{box, in_patches}
-use Rattle.amr_patch.proofs.SameBoxes.{box_at, in_same_boxes, same_length}
-use Rattle.amr_faces.specs.Faces.{masked_faces, passing, x_end, y_end}
-use Rattle.amr_layout.specs.Adds.{AreInOrder, HasCellsBeyond, HasRegisterCells, cell_beyond, flow_to, flows_of, inflow_faces, is_exchange_face, is_inflow_face, is_ledger_face, is_outflow_face, number_of, outflow_faces, register_flows, word_of}
+use Rattle.amr_patch.proofs.SameBoxes.{in_same_boxes, same_length}
+use Rattle.amr_faces.specs.Faces.{passing, x_end, y_end}
+use Rattle.amr_layout.specs.Adds.{cell_beyond, flow_to, flows_of, goes_on, is_ledger_face, number_of, word_of}
 use Rattle.amr_layout.specs.declared.alone.LevelFlows.{LevelFlows}
 use Rattle.amr_layout.specs.Grounds.{SameGround, has_open_side}
-use Rattle.amr_layout.specs.LevelFlowLists.{AreFlowsOf, flows_before, level_flows}
-use Rattle.amr_layout.specs.declared.PatchLayout.{PatchLayout}
-use Rattle.amr_layout.specs.Arounds.{HaveMasks}
+use Rattle.amr_layout.specs.LevelFlowLists.{AreFlowsOf, flows_in_first, level_flows}
 use Rattle.amr_layout.specs.Places.{are_grouped, border_places, borders_of, holder_of, leads_on, level_borders, places_before, puts_among, puts_of}
 use Rattle.amr_layout.specs.Surroundings.{Around, domain_around, edge_count, edge_face, inside, inward, is_coarse_fine, is_open, outside}
 use Rattle.amr_layout.proofs.OpenSides.{none_open}
@@ -53,18 +50,6 @@ first_boxes ps qs e k = sym (take-map box k ps) ∙ ap (λ (bs : List Extent). t
 -- and the same list of what is worked out from each box
 over_boxes : {A : Type 0} (f g : Extent → A) → f ≡ g → (ps qs : List Patch) → map box ps ≡ map box qs → map (λ q. f (box q)) ps ≡ map (λ q. g (box q)) qs
 over_boxes f g same ps qs e = sym (map-map f box ps) ∙ (λ i. map (same i) (e i)) ∙ map-map g box qs
-
--- a fact on boxes beside a list
-zip_over_boxes : (P Q : Extent → PatchLayout → Type 0) → ((b : Extent) (x : PatchLayout) → P b x → Q b x) → (rs ts : List Patch) → map box rs ≡ map box ts → (ls : List PatchLayout) → AllZip (λ q x. P (box q) x) rs ls → AllZip (λ q x. Q (box q) x) ts ls
-zip_over_boxes P Q from [] [] e [] h = tt
-zip_over_boxes P Q from [] [] e (x ∷ ls) h = absurd h
-zip_over_boxes P Q from [] (t ∷ ts) e ls h = absurd (omega (arith, ap length e))
-zip_over_boxes P Q from (r ∷ rs) [] e ls h = absurd (omega (arith, ap length e))
-zip_over_boxes P Q from (r ∷ rs) (t ∷ ts) e [] h = absurd h
-zip_over_boxes P Q from (r ∷ rs) (t ∷ ts) e (x ∷ ls) h =
-    let head : box r ≡ box t = cc in
-    let rest : map box rs ≡ map box ts = cc in
-    (from (box t) x (subst (λ b. P b x) head h.0), zip_over_boxes P Q from rs ts rest ls h.1)
 
 -- ---- border faces and their places
 
@@ -138,42 +123,23 @@ module _ (s t : Around) (g : SameGround s t) where
       by_sides true e = ledger_open e
       by_sides false e = ledger_closed e
 
-  inflow_face_same : is_inflow_face s ≡ is_inflow_face t
-  unfolding is_inflow_face
-  inflow_face_same = λ i b f. ledger_same i b f && int_lt (pos 0) (inward (g.problem i) (g.level i) b f)
-
-  outflow_face_same : is_outflow_face s ≡ is_outflow_face t
-  unfolding is_outflow_face
-  outflow_face_same = λ i b f. ledger_same i b f && int_lt (inward (g.problem i) (g.level i) b f) (pos 0)
-
-  inflow_faces_same : inflow_faces s ≡ inflow_faces t
-  unfolding inflow_faces
-  inflow_faces_same = λ i b. passing (inflow_face_same i b) (edge_face b) (edge_count b)
-
-  outflow_faces_same : outflow_faces s ≡ outflow_faces t
-  unfolding outflow_faces
-  outflow_faces_same = λ i b. passing (outflow_face_same i b) (edge_face b) (edge_count b)
-
   beyond_same : cell_beyond s ≡ cell_beyond t
   unfolding cell_beyond
   beyond_same = λ i b f. parent (home_cell (domains i) (outside b f))
 
+  goes_same : goes_on s ≡ goes_on t
+  unfolding goes_on
+  goes_same = λ i b f. (ledger_same i b f || coarse_fine_same i b f) && not (int_eq (inward (g.problem i) (g.level i) b f) (pos 0))
+
   word_same : word_of s ≡ word_of t
   unfolding word_of
   word_same =
-      λ i b f. cond (int_lt (inward (g.problem i) (g.level i) b f) (pos 0)) (2 + 2 * number_of (g.cells i) (beyond_same i b f)) (3 + 2 * number_of (g.cells i) (beyond_same i b f))
-
-  exchange_same : is_exchange_face s ≡ is_exchange_face t
-  unfolding is_exchange_face
-  exchange_same = λ i b f. coarse_fine_same i b f && not (int_eq (inward (g.problem i) (g.level i) b f) (pos 0))
-
-  register_flows_same : register_flows s ≡ register_flows t
-  unfolding register_flows
-  register_flows_same = λ i b. map (λ f. flow_to (word_same i b f) f) (passing (exchange_same i b) (edge_face b) (edge_count b))
+      λ i b f. cond (open_same i b f) (cond (int_lt (pos 0) (inward (g.problem i) (g.level i) b f)) 0 1)
+      (cond (int_lt (inward (g.problem i) (g.level i) b f) (pos 0)) (2 + 2 * number_of (g.cells i) (beyond_same i b f)) (3 + 2 * number_of (g.cells i) (beyond_same i b f)))
 
   flows_same : flows_of s ≡ flows_of t
   unfolding flows_of
-  flows_same = λ i b. map (flow_to 0) (inflow_faces_same i b) ++ (map (flow_to 1) (outflow_faces_same i b) ++ register_flows_same i b)
+  flows_same = λ i b. map (λ f. flow_to (word_same i b f) f) (passing (goes_same i b) (edge_face b) (edge_count b))
 
   -- ---- the laws
 
@@ -185,9 +151,6 @@ module _ (s t : Around) (g : SameGround s t) where
 
   pub same_puts : (each : ℕ) (b : Extent) → puts_of (domain_around s) s.patches each b ≡ puts_of (domain_around t) t.patches each b
   same_puts each b = λ i. puts_same (domain_around s) (domain_around t) domains s.patches t.patches g.boxes each i b
-
-  pub same_border_places : (each k : ℕ) → border_places (domain_around s) s.patches each k ≡ border_places (domain_around t) t.patches each k
-  same_border_places each k = λ i. places_same (domain_around s) (domain_around t) domains s.patches t.patches g.boxes each i k
 
   pub same_flows : (b : Extent) → flows_of s b ≡ flows_of t b
   same_flows b = λ i. flows_same i b
@@ -202,12 +165,6 @@ module _ (s t : Around) (g : SameGround s t) where
       let count = same_length s.patches t.patches g.boxes in
       λ i. map (places i) (range_with_len 0 (count i))
 
-  pub all_masks : (each : ℕ) (ls : List PatchLayout) → HaveMasks s each ls → HaveMasks t each ls
-  all_masks each ls h =
-      let same = borders_same (domain_around s) (domain_around t) domains s.patches t.patches g.boxes each in
-      zip_over_boxes (λ b x. masked_faces b x.mask.items ≡ borders_of (domain_around s) s.patches each b) (λ b x. masked_faces b x.mask.items ≡ borders_of (domain_around t) t.patches each b)
-      (λ b x e. e ∙ (λ i. same i b)) s.patches t.patches g.boxes ls h
-
   pub all_flows : map (λ q. flows_of s (box q)) s.patches ≡ map (λ q. flows_of t (box q)) t.patches
   all_flows = over_boxes (flows_of s) (flows_of t) flows_same s.patches t.patches g.boxes
 
@@ -215,32 +172,13 @@ module _ (s t : Around) (g : SameGround s t) where
   unfolding level_flows
   level_flows_same rs ts same = sym (flat_map-map (flows_of s) box rs) ∙ (λ i. flat_map (flows_same i) (same i)) ∙ flat_map-map (flows_of t) box ts
 
-  flows_before_same : flows_before s ≡ flows_before t
-  flows_before_same = λ i k. length (level_flows_same (take k s.patches) (take k t.patches) (first_boxes s.patches t.patches g.boxes k) i)
+  in_first_same : flows_in_first s s.patches ≡ flows_in_first t t.patches
+  in_first_same = λ i k. length (level_flows_same (take k s.patches) (take k t.patches) (first_boxes s.patches t.patches g.boxes k) i)
 
   pub same_level_flows : (v : LevelFlows) → AreFlowsOf s v → AreFlowsOf t v
   same_level_flows v h =
       let count = same_length s.patches t.patches g.boxes in
       record {
         flows = h.flows ∙ level_flows_same s.patches t.patches g.boxes;
-        bounds = h.bounds ∙ (λ i. map (flows_before_same i) (range_with_len 0 (count i + 1)));
+        bounds = h.bounds ∙ (λ i. map (in_first_same i) (range_with_len 0 (count i + 1)));
       }
-
-  -- ---- register cells
-
-  cells_beyond : (b : Extent) → HasCellsBeyond s b → HasCellsBeyond t b
-  cells_beyond b h n lt edge =
-      let f = edge_face b n in
-      let there : Contains s.cells (cell_beyond s b f) = h n lt ((λ i. coarse_fine_same i b f) ∙ edge) in
-      subst (λ (cs : List Cell). Contains cs (cell_beyond t b f)) g.cells (subst (λ (c : Cell). Contains s.cells c) (λ i. beyond_same i b f) there)
-
-  pub same_register_cells : HasRegisterCells s → HasRegisterCells t
-  same_register_cells h = record {
-    ordered = subst (λ (cs : List Cell). AreInOrder cs) g.cells h.ordered;
-    inside = subst (λ l. All (λ c. IsTrue (in_domain (domain t.problem (l - 1)) c)) t.cells) g.level
-        (subst (λ (p : Problem). All (λ c. IsTrue (in_domain (domain p (s.level - 1)) c)) t.cells) g.problem
-        (subst (λ (cs : List Cell). All (λ c. IsTrue (in_domain (domain s.problem (s.level - 1)) c)) cs) g.cells h.inside));
-    each = λ k d lt.
-        subst (λ (b : Extent). HasCellsBeyond t b) (box_at s.patches t.patches k d g.boxes)
-        (cells_beyond (box (get_or s.patches k d)) (h.each k d (subst (λ n. k < n) (sym (same_length s.patches t.patches g.boxes)) lt)));
-  }

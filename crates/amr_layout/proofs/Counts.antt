@@ -23,6 +23,7 @@ use Rattle.amr_faces.specs.Faces.{IsInDomain}
 use Rattle.amr_phase.specs.Plans.{total}
 use Rattle.amr_layout.specs.Adds.{AreInOrder, HasRegisterCells}
 use Rattle.amr_layout.specs.Surroundings.{Around, edge_count}
+use Rattle.amr_layout.proofs.Totals.{total_most}
 
 -- ---- sums
 
@@ -71,13 +72,6 @@ module _ {A : Type 0} where
       let rest = sums_turned g n xs in
       let add = sum_add (g x) (λ k. total (λ y. g y k) xs) n in
       omega (arith, rest, add)
-
-  total_most : (f g : A → ℕ) (xs : List A) → ((k : ℕ) (d : A) → k < length xs → f (get_or xs k d) ≤ 4 * g (get_or xs k d)) → total f xs ≤ 4 * total g xs
-  total_most f g [] h = omega arith
-  total_most f g (x ∷ xs) h =
-      let rest : total f xs ≤ 4 * total g xs = total_most f g xs (λ k d lt. h (suc k) d (omega (arith, lt))) in
-      let here : f x ≤ 4 * g x = h 0 x (omega arith) in
-      let r : f x + total f xs ≤ 4 * (g x + total g xs) = omega (arith, here, rest) in r
 
 -- ---- the cells of one box
 
@@ -196,7 +190,7 @@ faces_few p l ps few apart inside =
     let w = columns p l in
     let h = rows p l in
     let each : total (λ (q : Patch). edge_count (box q)) ps ≤ 4 * total (λ (q : Patch). cells_among w h (box q)) ps =
-    total_most (λ (q : Patch). edge_count (box q)) (λ (q : Patch). cells_among w h (box q)) ps (λ k q lt. few_edges w h (box (get_or ps k q)) (among_domain p l (get_or ps k q) (inside k q lt))) in
+    total_most (λ (q : Patch). edge_count (box q)) (λ (q : Patch). cells_among w h (box q)) 4 ps (λ k q lt. few_edges w h (box (get_or ps k q)) (among_domain p l (get_or ps k q) (inside k q lt))) in
     omega (arith, each, all_cells_once w h ps apart, cells_of_domain p l few)
 
 -- ---- register cells

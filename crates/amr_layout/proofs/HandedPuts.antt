@@ -9,19 +9,19 @@ use Rattle.amr_layout.specs.declared.PutAt.{PutAt}
 use Rattle.amr_layout.proofs.Planned.{images_alike}
 
 -- the first i patches have their puts, and those of the others are still there
-pub record AreHanded (lots : List (Vec PutAt)) (old : List PatchLayout) (left : List (Vec PutAt)) (new : List PatchLayout) (i : ℕ) : Type 0 where
+pub record AreHanded (lists : List (Vec PutAt)) (old : List PatchLayout) (left : List (Vec PutAt)) (new : List PatchLayout) (i : ℕ) : Type 0 where
   pub count : length new ≡ length old
-  pub left_count : length left ≡ length lots
-  pub others : (k : ℕ) (v : Vec PutAt) → i ≤ k → get_or left k v ≡ get_or lots k v
-  pub puts : (k : ℕ) (t : PatchLayout) (v : Vec PutAt) → k < i → k < length old → (get_or new k t).puts.items ≡ (get_or lots k v).items
+  pub left_count : length left ≡ length lists
+  pub others : (k : ℕ) (v : Vec PutAt) → i ≤ k → get_or left k v ≡ get_or lists k v
+  pub puts : (k : ℕ) (t : PatchLayout) (v : Vec PutAt) → k < i → k < length old → (get_or new k t).puts.items ≡ (get_or lists k v).items
   pub border : (k : ℕ) (t : PatchLayout) → k < length old → (get_or new k t).border.items ≡ (get_or old k t).border.items
   pub mask : (k : ℕ) (t : PatchLayout) → k < length old → (get_or new k t).mask.items ≡ (get_or old k t).mask.items
 
-pub none_handed : (lots : List (Vec PutAt)) (old : List PatchLayout) → AreHanded lots old lots old 0
-none_handed lots old = record { count = refl; left_count = refl; others = λ k v le. refl; puts = λ k t v lt below. absurd (omega (arith, lt)); border = λ k t lt. refl; mask = λ k t lt. refl }
+pub none_handed : (lists : List (Vec PutAt)) (old : List PatchLayout) → AreHanded lists old lists old 0
+none_handed lists old = record { count = refl; left_count = refl; others = λ k v le. refl; puts = λ k t v lt below. absurd (omega (arith, lt)); border = λ k t lt. refl; mask = λ k t lt. refl }
 
 -- one more
-module _ (lots : List (Vec PutAt)) (old : List PatchLayout) (left : List (Vec PutAt)) (new : List PatchLayout) (i : ℕ) (h : AreHanded lots old left new i) (there : i < length new) (same_count : length lots ≡ length old)
+module _ (lists : List (Vec PutAt)) (old : List PatchLayout) (left : List (Vec PutAt)) (new : List PatchLayout) (i : ℕ) (h : AreHanded lists old left new i) (there : i < length new) (same_count : length lists ≡ length old)
     (was now : PatchLayout) (empty puts : Vec PutAt) (at : was ≡ get_or new i was) (taken : puts ≡ get_or left i puts) (given : now.puts ≡ puts) (border_stays : now.border ≡ was.border) (mask_stays : now.mask ≡ was.mask) where
   abbrev after : List PatchLayout
   after = set new i now
@@ -38,16 +38,16 @@ module _ (lots : List (Vec PutAt)) (old : List PatchLayout) (left : List (Vec Pu
           ap (λ n. f (get_or after n t)) e ∙ ap f (here t) ∙ same ∙ ap f at ∙ ap f (same_default new i was t there) ∙ ap (λ n. f (get_or new n t)) (sym e) ∙ before k t lt
       from (inr ne) = ap f (get_or-set_other new i k now t ne) ∙ before k t lt
 
-  puts_now : (k : ℕ) (t : PatchLayout) (v : Vec PutAt) → k < i + 1 → k < length old → (get_or after k t).puts.items ≡ (get_or lots k v).items
+  puts_now : (k : ℕ) (t : PatchLayout) (v : Vec PutAt) → k < i + 1 → k < length old → (get_or after k t).puts.items ≡ (get_or lists k v).items
   puts_now k t v lt below = from (cases_eq k i)
     where
-      from : (k ≡ i) ⊎ (k ≢ i) → (get_or after k t).puts.items ≡ (get_or lots k v).items
+      from : (k ≡ i) ⊎ (k ≢ i) → (get_or after k t).puts.items ≡ (get_or lists k v).items
       from (inl e) =
           ap (λ n. (get_or after n t).puts.items) e ∙ ap (λ (x : PatchLayout). x.puts.items) (here t)
-          ∙ ap (λ (w : Vec PutAt). w.items) (given ∙ taken ∙ h.others i puts (omega arith) ∙ same_default lots i puts v (omega (arith, there, h.count, same_count)) ∙ ap (λ n. get_or lots n v) (sym e))
+          ∙ ap (λ (w : Vec PutAt). w.items) (given ∙ taken ∙ h.others i puts (omega arith) ∙ same_default lists i puts v (omega (arith, there, h.count, same_count)) ∙ ap (λ n. get_or lists n v) (sym e))
       from (inr ne) = ap (λ (x : PatchLayout). x.puts.items) (get_or-set_other new i k now t ne) ∙ h.puts k t v (omega (arith, lt, ne)) below
 
-  pub one_handed : AreHanded lots old (set left i empty) after (i + 1)
+  pub one_handed : AreHanded lists old (set left i empty) after (i + 1)
   one_handed = record {
     count = length-set new i now ∙ h.count;
     left_count = length-set left i empty ∙ h.left_count;
@@ -58,9 +58,9 @@ module _ (lots : List (Vec PutAt)) (old : List PatchLayout) (left : List (Vec Pu
   }
 
 -- all
-module _ (lots : List (Vec PutAt)) (old : List PatchLayout) (left : List (Vec PutAt)) (new : List PatchLayout) (i : ℕ) (h : AreHanded lots old left new i) (all : length new ≤ i) (same_count : length lots ≡ length old) where
-  pub all_puts : map (λ (t : PatchLayout). t.puts.items) new ≡ map (λ (v : Vec PutAt). v.items) lots
-  all_puts = images_alike (λ (t : PatchLayout). t.puts.items) (λ (v : Vec PutAt). v.items) new lots (omega (arith, h.count, same_count)) (λ k t v lt. h.puts k t v (omega (arith, lt, all, h.count, same_count)) (omega (arith, lt, same_count)))
+module _ (lists : List (Vec PutAt)) (old : List PatchLayout) (left : List (Vec PutAt)) (new : List PatchLayout) (i : ℕ) (h : AreHanded lists old left new i) (all : length new ≤ i) (same_count : length lists ≡ length old) where
+  pub all_puts : map (λ (t : PatchLayout). t.puts.items) new ≡ map (λ (v : Vec PutAt). v.items) lists
+  all_puts = images_alike (λ (t : PatchLayout). t.puts.items) (λ (v : Vec PutAt). v.items) new lists (omega (arith, h.count, same_count)) (λ k t v lt. h.puts k t v (omega (arith, lt, all, h.count, same_count)) (omega (arith, lt, same_count)))
 
   pub all_borders : map (λ (t : PatchLayout). t.border.items) new ≡ map (λ (t : PatchLayout). t.border.items) old
   all_borders = images_alike (λ (t : PatchLayout). t.border.items) (λ (t : PatchLayout). t.border.items) new old h.count (λ k t u lt. h.border k t lt ∙ ap (λ (x : PatchLayout). x.border.items) (same_default old k t u lt))

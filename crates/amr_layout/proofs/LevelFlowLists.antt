@@ -5,17 +5,15 @@ use Rattle.std.specs.List.{All, flat_map, range_with_len}
 use Rattle.std.proofs.Math.Seq.{drop-append-add, take-append_seam}
 use Rattle.std.proofs.lemmas.Grind.{flat_map-append}
 use Rattle.std.proofs.lemmas.List.{take_more}
-use Rattle.std.proofs.lemmas.List.Elements.{All-append, All-drop, All-map, All-take}
+use Rattle.std.proofs.lemmas.List.Elements.{All-drop, All-take}
 use Rattle.std.proofs.lemmas.List.Folds.{length-flat_map-take}
 use Rattle.std.proofs.lemmas.List.FromFn.{get_or-map-range_with_len, length-map-range_with_len, map-range_with_len_more}
-use Rattle.amr_box.specs.Cells.{Extent}
 use Rattle.amr_patch.specs.declared.patches.Patch.{Patch}
 use Rattle.amr_patch.specs.Patches.{box}
 use Rattle.amr_layout.specs.declared.FlowTo.{FlowTo}
 use Rattle.amr_layout.specs.declared.alone.LevelFlows.{LevelFlows}
-use Rattle.amr_layout.specs.declared.adds.PatchFlows.{PatchFlows}
-use Rattle.amr_layout.specs.Adds.{flow_to, flows_of, inflow_faces, outflow_faces, register_flows}
-use Rattle.amr_layout.specs.LevelFlowLists.{AreFlowsOf, HasFlowsAt, flows_at, flows_before, flows_in_first, level_flows}
+use Rattle.amr_layout.specs.Adds.{flows_of}
+use Rattle.amr_layout.specs.LevelFlowLists.{AreFlowsOf, HasFlowsAt, flows_at, flows_in_first, level_flows}
 use Rattle.amr_layout.specs.Surroundings.{Around}
 
 -- ---- lists made of lists
@@ -39,19 +37,6 @@ each_of_patch P v i h =
 
 -- ---- made patch by patch
 
--- the lists of a patch, joined
-pub joined : (s : Around) (b : Extent) (xs : PatchFlows) → xs.inflow.items ≡ inflow_faces s b → xs.outflow.items ≡ outflow_faces s b → xs.register.items ≡ register_flows s b
-    → map (flow_to 0) xs.inflow.items ++ (map (flow_to 1) xs.outflow.items ++ xs.register.items) ≡ flows_of s b
-unfolding flows_of
-joined s b xs i o r = λ t. map (flow_to 0) (i t) ++ (map (flow_to 1) (o t) ++ r t)
-
-pub words_joined : (n : ℕ) (xs : PatchFlows) → 1 < n → All (λ (x : FlowTo). x.word < n) xs.register.items → All (λ (x : FlowTo). x.word < n) (map (flow_to 0) xs.inflow.items ++ (map (flow_to 1) xs.outflow.items ++ xs.register.items))
-words_joined n xs some h =
-    let P : FlowTo → Type 0 = λ x. x.word < n in
-    All-append P (map (flow_to 0) xs.inflow.items) (map (flow_to 1) xs.outflow.items ++ xs.register.items)
-    (All-map P (flow_to 0) xs.inflow.items (λ k d lt. let z : 0 < n = omega (arith, some) in z))
-    (All-append P (map (flow_to 1) xs.outflow.items) xs.register.items (All-map P (flow_to 1) xs.outflow.items (λ k d lt. some)) h)
-
 module _ (s : Around) (run : List Patch) where
   pub none_yet : level_flows s (take 0 run) ≡ []
   unfolding level_flows
@@ -72,34 +57,34 @@ module _ (s : Around) where
   -- ---- the part of a patch
 
   module _ (v : LevelFlows) (h : AreFlowsOf s v) (i : ℕ) (lt : i < length s.patches) where
-    bound_at : (k : ℕ) → k < length s.patches + 1 → slice_index v.bounds.items k ≡ flows_before s k
-    bound_at k below = ap (λ (l : List ℕ). slice_index l k) h.bounds ∙ get_or-map-range_with_len (flows_before s) 0 (length s.patches + 1) k k 0 below (let z : 0 + k ≡ k = omega arith in z)
+    bound_at : (k : ℕ) → k < length s.patches + 1 → slice_index v.bounds.items k ≡ flows_in_first s s.patches k
+    bound_at k below = ap (λ (l : List ℕ). slice_index l k) h.bounds ∙ get_or-map-range_with_len (flows_in_first s s.patches) 0 (length s.patches + 1) k k 0 below (let z : 0 + k ≡ k = omega arith in z)
 
-    start : slice_index v.bounds.items i ≡ flows_before s i
+    start : slice_index v.bounds.items i ≡ flows_in_first s s.patches i
     start = bound_at i (omega (arith, lt))
 
-    end : slice_index v.bounds.items (i + 1) ≡ flows_before s (i + 1)
+    end : slice_index v.bounds.items (i + 1) ≡ flows_in_first s s.patches (i + 1)
     end = bound_at (i + 1) (omega (arith, lt))
 
     -- the next bound is as much further as the patch has flows
-    next : (d : Patch) → flows_before s (i + 1) ≡ flows_before s i + length (flows_of s (box (get_or s.patches i d)))
+    next : (d : Patch) → flows_in_first s s.patches (i + 1) ≡ flows_in_first s s.patches i + length (flows_of s (box (get_or s.patches i d)))
     unfolding level_flows
     next d =
         let g : Patch → List FlowTo = λ q. flows_of s (box q) in
         ap (λ (l : List FlowTo). length l) (parts_more g s.patches i d lt) ∙ length-append (flat_map g (take i s.patches)) (g (get_or s.patches i d))
 
-    within_all : (d : Patch) → flows_before s i + length (flows_of s (box (get_or s.patches i d))) ≤ length (level_flows s s.patches)
+    within_all : (d : Patch) → flows_in_first s s.patches i + length (flows_of s (box (get_or s.patches i d))) ≤ length (level_flows s s.patches)
     unfolding level_flows
     within_all d = length-flat_map-take (λ (q : Patch). flows_of s (box q)) s.patches i d lt
 
     pub has_flows_at : Patch → HasFlowsAt v i
     has_flows_at d = record {
-      there = omega (arith, lt, ap (λ (l : List ℕ). length l) h.bounds, length-map-range_with_len (flows_before s) 0 (length s.patches + 1));
+      there = omega (arith, lt, ap (λ (l : List ℕ). length l) h.bounds, length-map-range_with_len (flows_in_first s s.patches) 0 (length s.patches + 1));
       order = omega (arith, start, end, next d);
       within = omega (arith, end, next d, within_all d, ap (λ (l : List FlowTo). length l) h.flows);
     }
 
-    part_of_patch : (d : Patch) → take (length (flows_of s (box (get_or s.patches i d)))) (drop (flows_before s i) (level_flows s s.patches)) ≡ flows_of s (box (get_or s.patches i d))
+    part_of_patch : (d : Patch) → take (length (flows_of s (box (get_or s.patches i d)))) (drop (flows_in_first s s.patches i) (level_flows s s.patches)) ≡ flows_of s (box (get_or s.patches i d))
     unfolding level_flows
     part_of_patch d = one_part (λ (q : Patch). flows_of s (box q)) s.patches i d lt
 

@@ -1,8 +1,8 @@
 -- The border faces and their places, patch by patch.
-use Rattle.std.proofs.Common.{◌≡◌, ℕ, suc, ◌+◌, ◌-◌, ◌<◌, ◌≤◌, Bool, cond, List, [], ◌∷◌, ◌++◌, length, length-append, get_or, map, take, refl, sym, ap, ◌∙◌, add-one, append-nil, arith}
+use Rattle.std.proofs.Common.{◌≡◌, ℕ, suc, ◌+◌, ◌-◌, ◌<◌, ◌≤◌, List, [], ◌∷◌, ◌++◌, length, length-append, get_or, map, take, refl, sym, ap, ◌∙◌, add-one, append-nil, arith}
 use Rattle.std.specs.List.{flat_map, range_with_len}
 use Rattle.std.specs.Global.{Vec}
-use Rattle.std.proofs.lemmas.List.{append_assoc, map-append, take_more}
+use Rattle.std.proofs.lemmas.List.{map-append, take_more}
 use Rattle.std.proofs.lemmas.List.FromFn.{map-range_with_len_more}
 use Rattle.std.proofs.lemmas.Grind.{flat_map-append}
 use Rattle.amr_box.specs.declared.Face.{Face}
@@ -14,21 +14,13 @@ use Rattle.amr_patch.specs.Patches.{box}
 use Rattle.amr_faces.specs.Faces.{passing, x_end, y_end}
 use Rattle.amr_layout.specs.declared.PutAt.{PutAt}
 use Rattle.amr_layout.specs.Places.{ArePut, border_places, borders_of, holder_of, leads_on, level_borders, places_before}
-use Rattle.amr_layout.proofs.Passing.{passing_length, passing_next}
+use Rattle.amr_layout.proofs.Passing.{passing_length}
 
 pub range_next : (first k : ℕ) → first ≤ k → range_with_len first (k + 1 - first) ≡ range_with_len first (k - first) ++ k ∷ []
 range_next first k le =
     let one : k + 1 - first ≡ suc (k - first) = omega arith in
     let last : first + (k - first) ≡ k = omega arith in
     ap (range_with_len first) one ∙ range_more first (k - first) ∙ ap (λ j. range_with_len first (k - first) ++ j ∷ []) last
-
--- one more face of a side
-pub done_more : (test : Face → Bool) (g : ℕ → Face) (n : ℕ) (done : List Face) (f : Face) → f ≡ g n → (done ++ passing test g n) ++ cond (test f) (f ∷ []) [] ≡ done ++ passing test g (n + 1)
-done_more test g n done f at =
-    append_assoc done (passing test g n) (cond (test f) (f ∷ []) []) ∙ ap (λ k. done ++ (passing test g n ++ cond (test k) (k ∷ []) [])) at ∙ ap (λ l. done ++ l) (sym (passing_next test g n))
-
-pub done_more_after : (test : Face → Bool) (g : ℕ → Face) (n : ℕ) (done xs : List Face) (f : Face) → f ≡ g n → (done ++ (xs ++ passing test g n)) ++ cond (test f) (f ∷ []) [] ≡ done ++ (xs ++ passing test g (n + 1))
-done_more_after test g n done xs f at = append_assoc done (xs ++ passing test g n) (cond (test f) (f ∷ []) []) ∙ ap (λ l. done ++ l) (done_more test g n xs f at)
 
 module _ (d : Domain) (ps : List Patch) (each : ℕ) where
   pub no_borders : level_borders d ps each (take 0 ps) ≡ []
@@ -51,10 +43,10 @@ module _ (d : Domain) (ps : List Patch) (each : ℕ) where
       let last : end ≡ length (level_borders d ps each (take (suc i) ps)) = b ∙ ap (λ k. length (level_borders d ps each (take k ps))) (add-one i) in
       e ∙ ap (λ k. range_with_len k (end - k)) a ∙ ap (λ k. range_with_len (length (level_borders d ps each (take i ps))) (k - length (level_borders d ps each (take i ps)))) last
 
-  pub places_more : {A : Type 0} (read : A → List ℕ) (i first end : ℕ) (vs : List A) (new : A) (lots lots' : List (Vec PutAt))
-      → ArePut d ps (level_borders d ps each (take i ps)) first lots → ArePut d ps (level_borders d ps each (take (i + 1) ps)) end lots' → read new ≡ range_with_len first (end - first)
+  pub places_more : {A : Type 0} (read : A → List ℕ) (i first end : ℕ) (vs : List A) (new : A) (lists lists' : List (Vec PutAt))
+      → ArePut d ps (level_borders d ps each (take i ps)) first lists → ArePut d ps (level_borders d ps each (take (i + 1) ps)) end lists' → read new ≡ range_with_len first (end - first)
       → map read vs ≡ map (border_places d ps each) (range_with_len 0 i) → map read (vs ++ new ∷ []) ≡ map (border_places d ps each) (range_with_len 0 (i + 1))
-  places_more read i first end vs new lots lots' a b e before =
+  places_more read i first end vs new lists lists' a b e before =
       map-append read vs (new ∷ []) ∙ ap (λ l. l ++ read new ∷ []) before ∙ ap (λ l. map (border_places d ps each) (range_with_len 0 i) ++ l ∷ []) (places_is i first end (read new) a.places b.places e)
       ∙ sym (map-range_with_len_more (border_places d ps each) 0 i i (let z : 0 + i ≡ i = omega arith in z))
 

@@ -1,12 +1,14 @@
 pub mod Passing
 pub mod Placing
 pub mod Numbers
+pub mod Totals
 pub mod Edges
 pub mod Going
 pub mod LevelPlaces
 pub mod LevelFlowLists
 pub mod Runs
 pub mod Planned
+mod FlowWords
 pub mod Samples
 pub mod OpenSides
 pub mod ByBoxes

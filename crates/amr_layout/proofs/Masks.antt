@@ -1,24 +1,16 @@
 -- One more entry of a mask is set, one more face counted, and one more patch has its mask.
-use Rattle.std.proofs.Common.{◌≡◌, ◌≢◌, ℕ, suc, ◌+◌, ◌*◌, ◌<◌, ◌≤◌, ◌⊎◌, inl, inr, Bool, false, List, [], ◌∷◌, ◌++◌, length, length-append, get_or, set, sym, ap, subst, ◌∙◌, arith}
-use Rattle.std.specs.Prelude.{cond, slice_index_or}
+use Rattle.std.proofs.Common.{◌≡◌, ◌≢◌, ℕ, suc, ◌+◌, ◌*◌, ◌<◌, ◌≤◌, ◌⊎◌, inl, inr, Bool, false, List, [], ◌∷◌, ◌++◌, length, get_or, set, sym, ap, subst, ◌∙◌, arith}
+use Rattle.std.specs.Prelude.{slice_index_or}
 use Rattle.std.specs.List.{AllZip}
 use Rattle.std.proofs.Math.ListN.{get_or-append}
 use Rattle.std.proofs.lemmas.Bool.{cases_eq, cases_lt}
 use Rattle.std.proofs.lemmas.List.{get_or-append-add, get_or-set_other, get_or-set_same}
 use Rattle.std.proofs.lemmas.Nat.{same_from_place}
 use Rattle.std.proofs.Math.Nat.{mul-le-mul_right}
-use Rattle.amr_box.specs.declared.Face.{Face}
 use Rattle.amr_def.specs.Domain.{Domain}
 use Rattle.amr_patch.specs.declared.patches.Patch.{Patch}
-use Rattle.amr_faces.specs.Faces.{passing}
 use Rattle.amr_layout.specs.declared.PatchLayout.{PatchLayout}
 use Rattle.amr_layout.specs.Places.{HasMask}
-use Rattle.amr_layout.proofs.Passing.{passing_next}
-
-pub count_more : (test : Face → Bool) (g : ℕ → Face) (n before count next : ℕ) (f : Face) → f ≡ g n → count ≡ before + length (passing test g n) → next ≡ count + length (cond (test f) (f ∷ []) []) → next ≡ before + length (passing test g (n + 1))
-count_more test g n before count next f at was now =
-    let here : length (cond (test f) (f ∷ []) []) ≡ length (cond (test (g n)) (g n ∷ []) []) = ap (λ z. length (cond (test z) (z ∷ []) [])) at in
-    omega (arith, was, now, here, ap length (passing_next test g n), length-append (passing test g n) (cond (test (g n)) (g n ∷ []) []))
 
 -- entry j is set: those before it stay
 module _ (at : ℕ → ℕ) (want : ℕ → Bool) (mask : List Bool) (j : ℕ) (value : Bool) (there : at j < length mask) (is : value ≡ want j) where

@@ -4,7 +4,7 @@ use Rattle.std.proofs.lemmas.Bool.{false_from_ne_true}
 use Rattle.std.specs.List.{filter}
 use Rattle.std.specs.Global.{Vec}
 use Rattle.std.proofs.lemmas.Bool.Decides.{eqb_tells}
-use Rattle.std.proofs.lemmas.List.{length-set, get_or-set_same, get_or-set_other, map-append, length-map}
+use Rattle.std.proofs.lemmas.List.{append_assoc, length-set, get_or-set_same, get_or-set_other, map-append, length-map}
 use Rattle.std.proofs.lemmas.List.Elements.{filter-append}
 use Rattle.amr_box.specs.declared.Face.{Face}
 use Rattle.amr_box.specs.Cells.{Extent, holds}
@@ -14,7 +14,8 @@ use Rattle.amr_patch.specs.declared.patches.Patch.{Patch}
 use Rattle.amr_patch.specs.Patches.{ArePatchesApart, box}
 use Rattle.amr_patch.proofs.Lookups.{one_patch}
 use Rattle.amr_layout.specs.declared.PutAt.{PutAt}
-use Rattle.amr_layout.specs.Places.{ArePut, home_face, placed, puts_among}
+use Rattle.amr_layout.specs.declared.places.Places.{Places}
+use Rattle.amr_layout.specs.Places.{ArePlacesOf, ArePut, HaveGot, home_face, placed, puts_among}
 
 pub placed_append : (n : ℕ) (xs ys : List Face) → placed n (xs ++ ys) ≡ placed n xs ++ placed (n + length xs) ys
 placed_append n [] ys = ap (λ k. placed k ys) (let e : n ≡ n + 0 = omega arith in e)
@@ -37,46 +38,61 @@ puts_more d b done f =
     ∙ ap (filter own) (numbered ∙ ap (λ k. placed 0 (map (home_face d) done) ++ placed k (home_face d f ∷ [])) count)
     ∙ filter-append own (placed 0 (map (home_face d) done)) (put_of d (length done) f ∷ [])
 
--- no place for a face that doesn't lead on
-pub none_more : (d : Domain) (ps : List Patch) (done : List Face) (f : Face) (n : ℕ) (lots : List (Vec PutAt)) (leads : Bool) → leads ≡ false → ArePut d ps done n lots → ArePut d ps (done ++ cond leads (f ∷ []) []) n lots
-none_more d ps done f n lots leads e put =
-    let same : done ≡ done ++ cond leads (f ∷ []) [] = sym (append-nil done) ∙ ap (λ b. done ++ cond b (f ∷ []) []) (sym e) in
-    subst (λ (l : List Face). ArePut d ps l n lots) same put
-
-one_lot : (d : Domain) (ps : List Patch) (done : List Face) (f : Face) (n : ℕ) (lots : List (Vec PutAt)) (j : ℕ) (new : Vec PutAt)
+one_list : (d : Domain) (ps : List Patch) (done : List Face) (f : Face) (n : ℕ) (lists : List (Vec PutAt)) (j : ℕ) (new : Vec PutAt)
     → ArePatchesApart ps → ((e : Patch) → holds (box (get_or ps j e)) (high_cell (home_face d f)) ≡ true) → j < length ps
-    → new.items ≡ (get_or lots j new).items ++ put_of d n f ∷ [] → ArePut d ps done n lots
-    → (k : ℕ) (v : Vec PutAt) (q : Patch) → k < length ps → (get_or (set lots j new) k v).items ≡ puts_among d (box (get_or ps k q)) (done ++ f ∷ [])
-one_lot d ps done f n lots j new apart own there is put k v q below =
+    → new.items ≡ (get_or lists j new).items ++ put_of d n f ∷ [] → ArePut d ps done n lists
+    → (k : ℕ) (v : Vec PutAt) (q : Patch) → k < length ps → (get_or (set lists j new) k v).items ≡ puts_among d (box (get_or ps k q)) (done ++ f ∷ [])
+one_list d ps done f n lists j new apart own there is put k v q below =
     let b = box (get_or ps k q) in
     let c = high_cell (home_face d f) in
     let more = puts_more d b done f in
     let count : put_of d n f ≡ put_of d (length done) f = ap (λ m. put_of d m f) put.places in
     elim (eqb_tells k j) [
       | inl here ↦
-          let at : get_or (set lots j new) k v ≡ new = ap (λ i. get_or (set lots j new) i v) here.1 ∙ get_or-set_same lots j new v (omega (arith, put.lot_count)) in
+          let at : get_or (set lists j new) k v ≡ new = ap (λ i. get_or (set lists j new) i v) here.1 ∙ get_or-set_same lists j new v (omega (arith, put.list_count)) in
           let mine : holds b c ≡ true = ap (λ i. holds (box (get_or ps i q)) c) here.1 ∙ own q in
-          let had : (get_or lots j new).items ≡ puts_among d b done = put.each j new q there ∙ ap (λ i. puts_among d (box (get_or ps i q)) done) (sym here.1) in
+          let had : (get_or lists j new).items ≡ puts_among d b done = put.each j new q there ∙ ap (λ i. puts_among d (box (get_or ps i q)) done) (sym here.1) in
           ap (λ (w : Vec PutAt). w.items) at ∙ is ∙ ap (λ l. l ++ put_of d n f ∷ []) had ∙ ap (λ x. puts_among d b done ++ x ∷ []) count
           ∙ sym (more ∙ ap (λ t. puts_among d b done ++ cond t (put_of d (length done) f ∷ []) []) mine)
       | inr other ↦
-          let at : get_or (set lots j new) k v ≡ get_or lots k v = get_or-set_other lots j k new v other.1 in
+          let at : get_or (set lists j new) k v ≡ get_or lists k v = get_or-set_other lists j k new v other.1 in
           let not_mine : holds b c ≡ false = false_from_ne_true (holds b c) (λ e. other.1 (one_patch ps c k j q apart below there e (own q))) in
           ap (λ (w : Vec PutAt). w.items) at ∙ put.each k v q below ∙ sym (append-nil (puts_among d b done))
           ∙ sym (more ∙ ap (λ t. puts_among d b done ++ cond t (put_of d (length done) f ∷ []) []) not_mine)
     ]
 
-pub one_more : (d : Domain) (ps : List Patch) (done : List Face) (f : Face) (n : ℕ) (lots : List (Vec PutAt)) (j : ℕ) (new : Vec PutAt) (leads : Bool)
+pub one_more : (d : Domain) (ps : List Patch) (done : List Face) (f : Face) (n : ℕ) (lists : List (Vec PutAt)) (j : ℕ) (new : Vec PutAt) (leads : Bool)
     → ArePatchesApart ps → leads ≡ true → ((e : Patch) → holds (box (get_or ps j e)) (high_cell (home_face d f)) ≡ true) → j < length ps
-    → new.items ≡ (get_or lots j new).items ++ put_of d n f ∷ [] → ArePut d ps done n lots
-    → ArePut d ps (done ++ cond leads (f ∷ []) []) (n + 1) (set lots j new)
-one_more d ps done f n lots j new leads apart on own there is put =
-    let P : List Face → Type 0 = λ l. ArePut d ps l (n + 1) (set lots j new) in
+    → new.items ≡ (get_or lists j new).items ++ put_of d n f ∷ [] → ArePut d ps done n lists
+    → ArePut d ps (done ++ cond leads (f ∷ []) []) (n + 1) (set lists j new)
+one_more d ps done f n lists j new leads apart on own there is put =
+    let P : List Face → Type 0 = λ l. ArePut d ps l (n + 1) (set lists j new) in
     subst P (ap (λ b. done ++ cond b (f ∷ []) []) (sym on)) (record {
       places = omega (arith, put.places, length-append done (f ∷ []));
-      lot_count = length-set lots j new ∙ put.lot_count;
-      each = one_lot d ps done f n lots j new apart own there is put;
+      list_count = length-set lists j new ∙ put.list_count;
+      each = one_list d ps done f n lists j new apart own there is put;
     })
 
-pub no_puts_yet : (d : Domain) (ps : List Patch) (lots : List (Vec PutAt)) → length lots ≡ length ps → ((k : ℕ) (v : Vec PutAt) → k < length ps → (get_or lots k v).items ≡ []) → ArePut d ps [] 0 lots
-no_puts_yet d ps lots e none = record { places = refl; lot_count = e; each = λ k v q below. none k v below }
+pub no_puts_yet : (d : Domain) (ps : List Patch) (lists : List (Vec PutAt)) → length lists ≡ length ps → ((k : ℕ) (v : Vec PutAt) → k < length ps → (get_or lists k v).items ≡ []) → ArePut d ps [] 0 lists
+no_puts_yet d ps lists e none = record { places = refl; list_count = e; each = λ k v q below. none k v below }
+
+-- ---- border faces after others
+
+pub got_none : (d : Domain) (ps : List Patch) (a : Places) → ArePlacesOf ps a → HaveGot d ps [] a a
+got_none d ps a h = record { count = omega arith; places = h; put = λ done put. subst (λ (l : List Face). ArePut d ps l a.count a.lists.items) (sym (append-nil done)) put }
+
+pub got_more : (d : Domain) (ps : List Patch) (fs gs : List Face) (a b e : Places) → HaveGot d ps fs a b → HaveGot d ps gs b e → HaveGot d ps (fs ++ gs) a e
+got_more d ps fs gs a b e h k = record {
+  count = omega (arith, h.count, k.count, length-append fs gs);
+  places = k.places;
+  put = λ done put. subst (λ (l : List Face). ArePut d ps l e.count e.lists.items) (append_assoc done fs gs) (k.put (done ++ fs) (h.put done put));
+}
+
+-- a face that doesn't lead on gets none
+pub got_still : (d : Domain) (ps : List Patch) (a b : Places) (f : Face) (leads : Bool) → leads ≡ false → b.count ≡ a.count → b.lists ≡ a.lists → ArePlacesOf ps b → HaveGot d ps (cond leads (f ∷ []) []) a b
+got_still d ps a b f leads e count lists h =
+    subst (λ (t : Bool). HaveGot d ps (cond t (f ∷ []) []) a b) (sym e) (record {
+      count = omega (arith, count);
+      places = h;
+      put = λ done put. subst (λ (l : List Face). ArePut d ps l b.count b.lists.items) (sym (append-nil done)) (subst (λ (n : ℕ). ArePut d ps done n b.lists.items) (sym count) (subst (λ (v : Vec (Vec PutAt)). ArePut d ps done a.count v.items) (sym lists) put));
+    })

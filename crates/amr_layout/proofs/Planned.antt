@@ -1,15 +1,16 @@
 -- The posts of a level's patches are a plan, whatever the fluxes are.
-use Rattle.std.proofs.Common.{◌≡◌, ℕ, zero, suc, ◌+◌, ◌-◌, ◌*◌, ◌^◌, ◌<◌, ◌≤◌, ◌==◌, ◌⊎◌, inl, inr, Bool, true, false, cond, pos, List, [], ◌∷◌, ◌++◌, length, length-append, get_or, map, refl, sym, ap, subst, ◌∙◌, arith}
-use Rattle.std.specs.List.{All, filter}
+use Rattle.std.proofs.Common.{◌≡◌, ℕ, zero, suc, ◌+◌, ◌-◌, ◌*◌, ◌^◌, ◌<◌, ◌≤◌, ◌==◌, ◌⊎◌, inl, inr, Bool, true, false, cond, pos, List, [], ◌∷◌, length, get_or, map, refl, sym, ap, subst, ◌∙◌, arith}
+use Rattle.std.specs.List.{All, filter, flat_map}
 use Rattle.std.specs.Global.{Vec}
-use Rattle.std.specs.Prelude.{int_lt}
+use Rattle.std.specs.Prelude.{◌&&◌, ◌||◌, int_lt, not}
 use Rattle.std.proofs.lemmas.Bool.{and_parts, cases_lt}
-use Rattle.std.proofs.lemmas.List.Elements.{All-append, All-cons}
+use Rattle.std.proofs.lemmas.List.Elements.{All-append, All-cons, All-nil}
 use Rattle.std.proofs.lemmas.List.{get_or-map, get_or_past, length-map}
 use Rattle.amr_box.specs.declared.Face.{Face}
 use Rattle.amr_box.specs.declared.Axis.TheVariants.{X}
 use Rattle.amr_box.specs.Cells.{Extent, holds}
 use Rattle.amr_def.specs.Domain.{Domain}
+use Rattle.amr_def.specs.State.{is_covered}
 use Rattle.amr_def.specs.Flux.{face, high_cell}
 use Rattle.amr_patch.specs.declared.patches.Patch.{Patch}
 use Rattle.amr_patch.specs.Patches.{ArePatchesApart, box}
@@ -20,13 +21,14 @@ use Rattle.amr_phase.specs.Plans.{IsPlan, PlanOf, PutsAreApart, added, adds_of, 
 use Rattle.amr_phase.proofs.Layouts.{layout_is_plan}
 use Rattle.amr_faces.specs.Faces.{passing}
 use Rattle.amr_layout.specs.declared.PutAt.{PutAt}
-use Rattle.amr_layout.specs.Surroundings.{Around, domain_around, edge_count, edge_face, inward, is_coarse_fine}
+use Rattle.amr_layout.specs.Surroundings.{Around, domain_around, edge_count, edge_face, inside, inward, is_coarse_fine, is_open}
 use Rattle.amr_layout.specs.Places.{ArePut, home_face, level_borders, placed, puts_of}
 use Rattle.amr_layout.specs.declared.FlowTo.{FlowTo}
-use Rattle.amr_layout.specs.Adds.{AreInOrder, HasCellsBeyond, HasRegisterCells, cell_beyond, flow_to, flows_of, inflow_faces, is_exchange_face, is_inflow_face, is_outflow_face, number_of, outflow_faces, register_flows, word_of}
+use Rattle.amr_layout.specs.Adds.{AreInOrder, HasCellsBeyond, HasRegisterCells, cell_beyond, flow_to, flows_of, goes_on, is_ledger_face, number_of, size_to, word_of, word_total}
 use Rattle.amr_layout.specs.Posts.{AreSmallSizes, add_post, patch_plan, patch_task, put_post}
 use Rattle.amr_layout.proofs.Numbers.{number_within}
 use Rattle.amr_layout.proofs.Passing.{passing_length}
+use Rattle.amr_layout.proofs.Totals.{total_image, total_most}
 
 -- ---- lists
 
@@ -50,17 +52,6 @@ images_alike f g (x ∷ xs) (y ∷ ys) e h =
     let head : f x ≡ g y = h 0 x y (omega arith) in
     let rest : map f xs ≡ map g ys = images_alike f g xs ys (omega arith) (λ k a b lt. h (suc k) a b (omega arith)) in
     λ i. head i ∷ rest i
-
-total_image : {A B : Type 0} (f : B → ℕ) (g : A → B) (xs : List A) → total f (map g xs) ≡ total (λ x. f (g x)) xs
-total_image f g [] = refl
-total_image f g (x ∷ xs) = ap (λ n. f (g x) + n) (total_image f g xs)
-
-total_most : {A : Type 0} (f g : A → ℕ) (k : ℕ) (xs : List A) → ((x : A) → f x ≤ k * g x) → total f xs ≤ k * total g xs
-total_most f g k [] h = omega arith
-total_most f g k (x ∷ xs) h =
-    let rest : total f xs ≤ k * total g xs = total_most f g k xs h in
-    let here : f x ≤ k * g x = h x in
-    let r : f x + total f xs ≤ k * (g x + total g xs) = omega (arith, here, rest) in r
 
 -- ---- puts with places one after another
 
@@ -106,38 +97,30 @@ puts_rise own n (f ∷ fs) j k d h lt =
 
 -- ---- amounts
 
-added_most : (w : ℕ) (p : Post) → added w p ≤ p.amount
-added_most w p = from (p.at == w)
+-- no more than each flow has
+word_most : (size : Face → ℕ) → AreSmallSizes size → (word : ℕ) (xs : List FlowTo) → word_total size word xs ≤ 2 ^ 31 * length xs
+word_most size small word [] = omega arith
+word_most size small word (x ∷ xs) =
+    let rest : word_total size word xs ≤ 2 ^ 31 * length xs = word_most size small word xs in
+    let here : size_to size word x ≤ 2 ^ 31 = from (x.word == word) in
+    let r : size_to size word x + word_total size word xs ≤ 2 ^ 31 * suc (length xs) = omega (arith, rest, here) in r
   where
-    from : (t : Bool) → cond {A = ℕ} t p.amount 0 ≤ p.amount
-    from true = omega arith
+    from : (t : Bool) → cond {A = ℕ} t (size x.face) 0 ≤ 2 ^ 31
+    from true = let less : size x.face < 2 ^ 31 = small x.face in omega (arith, less)
     from false = omega arith
 
-flows_most : (size : Face → ℕ) → AreSmallSizes size → (w : ℕ) (xs : List FlowTo) → total (added w) (map (add_post size) xs) ≤ 2 ^ 31 * length xs
-flows_most size small w [] = omega arith
-flows_most size small w (x ∷ xs) =
-    let rest : total (added w) (map (add_post size) xs) ≤ 2 ^ 31 * length xs = flows_most size small w xs in
-    let here : added w (add_post size x) ≤ size x.face = added_most w (add_post size x) in
-    let less : size x.face < 2 ^ 31 = small x.face in
-    let r : added w (add_post size x) + total (added w) (map (add_post size) xs) ≤ 2 ^ 31 * suc (length xs) = omega (arith, rest, here, less) in r
-
--- a box has at most three flows for each face on its edges
-pub flows_few : (s : Around) (b : Extent) → length (flows_of s b) ≤ 3 * edge_count b
-unfolding flows_of inflow_faces outflow_faces register_flows
+-- a box has at most one flow for each face on its edges
+pub flows_few : (s : Around) (b : Extent) → length (flows_of s b) ≤ edge_count b
+unfolding flows_of
 flows_few s b =
-    let ins = passing (is_inflow_face s b) (edge_face b) (edge_count b) in
-    let outs = passing (is_outflow_face s b) (edge_face b) (edge_count b) in
-    let edges = passing (is_exchange_face s b) (edge_face b) (edge_count b) in
-    let to : Face → FlowTo = λ f. record { word = word_of s b f; face = f } in
-    let i : length ins ≤ edge_count b = passing_length (is_inflow_face s b) (edge_face b) (edge_count b) in
-    let o : length outs ≤ edge_count b = passing_length (is_outflow_face s b) (edge_face b) (edge_count b) in
-    let r : length edges ≤ edge_count b = passing_length (is_exchange_face s b) (edge_face b) (edge_count b) in
-    let both : length (map (flow_to 1) outs ++ map to edges) ≡ length (map (flow_to 1) outs) + length (map to edges) = length-append (map (flow_to 1) outs) (map to edges) in
-    let all : length (map (flow_to 0) ins ++ (map (flow_to 1) outs ++ map to edges)) ≡ length (map (flow_to 0) ins) + length (map (flow_to 1) outs ++ map to edges) = length-append (map (flow_to 0) ins) (map (flow_to 1) outs ++ map to edges) in
-    let m0 : length (map (flow_to 0) ins) ≡ length ins = length-map ins (flow_to 0) in
-    let m1 : length (map (flow_to 1) outs) ≡ length outs = length-map outs (flow_to 1) in
-    let m2 : length (map to edges) ≡ length edges = length-map edges to in
-    omega (arith, i, o, r, both, all, m0, m1, m2)
+    let faces = passing (goes_on s b) (edge_face b) (edge_count b) in
+    omega (arith, passing_length (goes_on s b) (edge_face b) (edge_count b), length-map faces (λ f. flow_to (word_of s b f) f))
+
+-- so a word gets at most one flow for each face on the edges of these patches
+pub level_few : (s : Around) (size : Face → ℕ) → AreSmallSizes size → (word : ℕ) (qs : List Patch) → total (λ (q : Patch). word_total size word (flows_of s (box q))) qs ≤ 2 ^ 31 * total (λ q. edge_count (box q)) qs
+level_few s size small word qs =
+    total_most (λ (q : Patch). word_total size word (flows_of s (box q))) (λ (q : Patch). edge_count (box q)) (2 ^ 31) qs
+    (λ k q lt. let xs = flows_of s (box (get_or qs k q)) in omega (arith, word_most size small word xs, flows_few s (box (get_or qs k q))))
 
 -- ---- the plan
 
@@ -181,43 +164,41 @@ same_task d ps each t u k j q apart t_in u_in kl jl e =
 
 -- ---- words
 
-all_images : {A B : Type 0} (P : B → Type 0) (f : A → B) (xs : List A) → All (λ x. P (f x)) xs → All P (map f xs)
-all_images P f [] h = λ k d lt. absurd (omega (arith, lt))
-all_images P f (x ∷ xs) h = All-cons P (f x) (map f xs) (h 0 x (omega arith)) (all_images P f xs (λ k d lt. h (suc k) d (omega (arith, lt))))
+pub all_images : {A B : Type 0} (f : A → B) (P : B → Type 0) (xs : List A) → All (λ x. P (f x)) xs → All P (map f xs)
+all_images f P [] h = All-nil P
+all_images f P (x ∷ xs) h = All-cons P (f x) (map f xs) (h 0 x (omega arith)) (all_images f P xs (λ k d lt. h (suc k) d (omega arith)))
+
+pub all_parts : {A B : Type 0} (f : A → List B) (P : B → Type 0) (xs : List A) → All (λ x. All P (f x)) xs → All P (flat_map f xs)
+all_parts f P [] h = All-nil P
+all_parts f P (x ∷ xs) h = All-append P (f x) (flat_map f xs) (h 0 x (omega arith)) (all_parts f P xs (λ k d lt. h (suc k) d (omega arith)))
 
 -- each face that passes has what all those have that pass
-all_passing : (P : Face → Type 0) (test : Face → Bool) (g : ℕ → Face) (n : ℕ) → ((k : ℕ) → k < n → test (g k) ≡ true → P (g k)) → All P (passing test g n)
-all_passing P test g zero h = λ k d lt. absurd (omega (arith, lt))
+pub all_passing : (P : Face → Type 0) (test : Face → Bool) (g : ℕ → Face) (n : ℕ) → ((k : ℕ) → k < n → test (g k) ≡ true → P (g k)) → All P (passing test g n)
+all_passing P test g zero h = All-nil P
 all_passing P test g (suc n) h = All-append P (passing test g n) _ (all_passing P test g n (λ k lt. h k (omega (arith, lt)))) (last (test (g n)) refl)
   where
     last : (t : Bool) → test (g n) ≡ t → All P (cond t (g n ∷ []) [])
-    last true e = All-cons P (g n) [] (h n (omega arith) e) (λ k d lt. absurd (omega (arith, lt)))
-    last false e = λ k d lt. absurd (omega (arith, lt))
+    last true e = All-cons P (g n) [] (h n (omega arith) e) (All-nil P)
+    last false e = All-nil P
 
-register_word : (s : Around) (b : Extent) (f : Face) → number_of s.cells (cell_beyond s b f) < length s.cells → word_of s b f < 2 + 2 * length s.cells
-unfolding word_of
-register_word s b f lt = from (int_lt (inward s.problem s.level b f) (pos 0))
+-- a flow goes to a word of the ledger, or to one of the register cell beyond its face
+one_word : (s : Around) (b : Extent) (f : Face) → goes_on s b f ≡ true → (is_coarse_fine s b f ≡ true → number_of s.cells (cell_beyond s b f) < length s.cells) → word_of s b f < 2 + 2 * length s.cells
+unfolding goes_on word_of is_ledger_face
+one_word s b f goes within = from (is_open s b f) (int_lt (pos 0) (inward s.problem s.level b f)) (int_lt (inward s.problem s.level b f) (pos 0)) (and_parts (is_ledger_face s b f || is_coarse_fine s b f) _ goes).0
   where
-    from : (t : Bool) → cond {A = ℕ} t (2 + 2 * number_of s.cells (cell_beyond s b f)) (3 + 2 * number_of s.cells (cell_beyond s b f)) < 2 + 2 * length s.cells
-    from true = omega (arith, lt)
-    from false = omega (arith, lt)
+    from : (o t u : Bool) → (o && not (is_covered s.finer (inside b f))) || is_coarse_fine s b f ≡ true
+        → cond {A = ℕ} o (cond t 0 1) (cond u (2 + 2 * number_of s.cells (cell_beyond s b f)) (3 + 2 * number_of s.cells (cell_beyond s b f))) < 2 + 2 * length s.cells
+    from true true u e = omega arith
+    from true false u e = omega arith
+    from false t true e = omega (arith, within e)
+    from false t false e = omega (arith, within e)
 
-exchange_coarse : (s : Around) (b : Extent) (f : Face) → is_exchange_face s b f ≡ true → is_coarse_fine s b f ≡ true
-unfolding is_exchange_face
-exchange_coarse s b f e = (and_parts (is_coarse_fine s b f) _ e).0
-
--- the flows of a box go to words of the ledger and of the register cells
-flow_words : (s : Around) (b : Extent) → AreInOrder s.cells → HasCellsBeyond s b → All (λ (x : FlowTo). x.word < 2 + 2 * length s.cells) (flows_of s b)
-unfolding flows_of register_flows
+pub flow_words : (s : Around) (b : Extent) → AreInOrder s.cells → HasCellsBeyond s b → All (λ (x : FlowTo). x.word < 2 + 2 * length s.cells) (flows_of s b)
+unfolding flows_of
 flow_words s b ordered there =
-    let W : FlowTo → Type 0 = λ x. x.word < 2 + 2 * length s.cells in
-    let to : Face → FlowTo = λ f. record { word = word_of s b f; face = f } in
-    let edges = passing (is_exchange_face s b) (edge_face b) (edge_count b) in
-    All-append W (map (flow_to 0) (inflow_faces s b)) (map (flow_to 1) (outflow_faces s b) ++ map to edges)
-    (all_images W (flow_to 0) (inflow_faces s b) (λ k d lt. let z : 0 < 2 + 2 * length s.cells = omega arith in z))
-    (All-append W (map (flow_to 1) (outflow_faces s b)) (map to edges) (all_images W (flow_to 1) (outflow_faces s b) (λ k d lt. let z : 1 < 2 + 2 * length s.cells = omega arith in z))
-    (all_images W to edges (all_passing (λ f. word_of s b f < 2 + 2 * length s.cells) (is_exchange_face s b) (edge_face b) (edge_count b)
-    (λ k lt e. register_word s b (edge_face b k) (number_within s.cells (cell_beyond s b (edge_face b k)) ordered (there k lt (exchange_coarse s b (edge_face b k) e)))))))
+    all_images (λ f. flow_to (word_of s b f) f) (λ x. x.word < 2 + 2 * length s.cells) (passing (goes_on s b) (edge_face b) (edge_count b))
+    (all_passing (λ f. word_of s b f < 2 + 2 * length s.cells) (goes_on s b) (edge_face b) (edge_count b)
+    (λ k lt e. one_word s b (edge_face b k) e (λ c. number_within s.cells (cell_beyond s b (edge_face b k)) ordered (there k lt c))))
 
 -- ---- the plan
 
@@ -231,23 +212,18 @@ module _ (s : Around) (each : ℕ) (apart : ArePatchesApart s.patches) (cells : 
   task_at : (t : ℕ) (q : Patch) → t < length s.patches → get_or plan.tasks t no_task ≡ patch_task s each size (get_or s.patches t q)
   task_at t q lt = get_or-map (patch_task s each size) s.patches t q no_task lt
 
-  there : (t k : ℕ) → k < length (posts_at plan t) → t < length s.patches
-  there t k lt = from (cases_lt t (length s.patches))
+  -- what has a post is the task of a patch
+  of_patch : (posts : Task → List Post) → length (posts no_task) ≡ 0 → (t k : ℕ) → k < length (posts (get_or plan.tasks t no_task)) → t < length s.patches
+  of_patch posts none t k lt = from (cases_lt t (length s.patches))
     where
       from : ((t < length s.patches) ⊎ (length s.patches ≤ t)) → t < length s.patches
       from (inl l) = l
       from (inr past) =
-          let none : length (posts_at plan t) ≡ 0 = ap (λ (x : Task). length x.puts) (get_or_past plan.tasks t no_task (omega (arith, past, length-map s.patches (patch_task s each size)))) in
-          absurd (omega (arith, lt, none))
+          let e = ap (λ (x : Task). length (posts x)) (get_or_past plan.tasks t no_task (omega (arith, past, length-map s.patches (patch_task s each size)))) in
+          absurd (omega (arith, lt, e, none))
 
-  add_there : (t k : ℕ) → k < length (adds_of plan t) → t < length s.patches
-  add_there t k lt = from (cases_lt t (length s.patches))
-    where
-      from : ((t < length s.patches) ⊎ (length s.patches ≤ t)) → t < length s.patches
-      from (inl l) = l
-      from (inr past) =
-          let none : length (adds_of plan t) ≡ 0 = ap (λ (x : Task). length x.adds) (get_or_past plan.tasks t no_task (omega (arith, past, length-map s.patches (patch_task s each size)))) in
-          absurd (omega (arith, lt, none))
+  there : (t k : ℕ) → k < length (posts_at plan t) → t < length s.patches
+  there t k lt = of_patch (λ x. x.puts) refl t k lt
 
   puts_at : (t : ℕ) (q : Patch) → t < length s.patches → posts_at plan t ≡ map (put_post size) (own_list d s.patches each t q)
   unfolding puts_of
@@ -290,7 +266,7 @@ module _ (s : Around) (each : ℕ) (apart : ArePatchesApart s.patches) (cells : 
 
   words_in_range : (t k : ℕ) → k < length (adds_of plan t) → (get_or (adds_of plan t) k no_post).at < plan.words
   words_in_range t k lt =
-      let l = add_there t k lt in
+      let l = of_patch (λ x. x.adds) refl t k lt in
       let q = nth s.patches t l in
       let xs = flows_of s (box (get_or s.patches t q)) in
       let e : adds_of plan t ≡ map (add_post size) xs = ap (λ (x : Task). x.adds) (task_at t q l) in
@@ -302,15 +278,13 @@ module _ (s : Around) (each : ℕ) (apart : ArePatchesApart s.patches) (cells : 
 
   totals : (w : ℕ) → planned_total plan w < 2 ^ 63
   totals w =
-      let by_patch : total (λ (t : Task). total (added w) t.adds) plan.tasks ≡ total (λ q. total (added w) (map (add_post size) (flows_of s (box q)))) s.patches = total_image (λ (t : Task). total (added w) t.adds) (patch_task s each size) s.patches in
-      let most : total (λ q. total (added w) (map (add_post size) (flows_of s (box q)))) s.patches ≤ 2 ^ 31 * total (λ q. length (flows_of s (box q))) s.patches = total_most (λ q. total (added w) (map (add_post size) (flows_of s (box q)))) (λ q. length (flows_of s (box q))) (2 ^ 31) s.patches (λ q. flows_most size small w (flows_of s (box q))) in
-      let some_each : total (λ q. length (flows_of s (box q))) s.patches ≤ 3 * total (λ q. edge_count (box q)) s.patches = total_most (λ q. length (flows_of s (box q))) (λ q. edge_count (box q)) 3 s.patches (λ q. flows_few s (box q)) in
-      omega (arith, by_patch, most, some_each, few)
+      let by_patch = total_image (λ (t : Task). total (added w) t.adds) (patch_task s each size) (λ (q : Patch). word_total size w (flows_of s (box q))) (λ q. total_image (added w) (add_post size) (size_to size w) (λ x. refl) (flows_of s (box q))) s.patches in
+      omega (arith, by_patch, level_few s size small w s.patches, few)
 
   pub planned : IsPlan plan
   planned = layout_is_plan plan (record { puts_in_range = in_range; adds_in_range = words_in_range; apart = are_apart; puts_fit = fits; totals_fit = totals })
 
 -- each lot has the puts that are its patch's
-pub lots_are : (d : Domain) (ps : List Patch) (each count : ℕ) (lots : List (Vec PutAt)) → ArePut d ps (level_borders d ps each ps) count lots → map (λ v. v.items) lots ≡ map (λ q. puts_of d ps each (box q)) ps
+pub lists_are : (d : Domain) (ps : List Patch) (each count : ℕ) (lists : List (Vec PutAt)) → ArePut d ps (level_borders d ps each ps) count lists → map (λ v. v.items) lists ≡ map (λ q. puts_of d ps each (box q)) ps
 unfolding puts_of
-lots_are d ps each count lots put = images_alike (λ (v : Vec PutAt). v.items) (λ q. puts_of d ps each (box q)) lots ps put.lot_count (λ k v q lt. put.each k v q lt)
+lists_are d ps each count lists put = images_alike (λ (v : Vec PutAt). v.items) (λ q. puts_of d ps each (box q)) lists ps put.list_count (λ k v q lt. put.each k v q lt)

@@ -97,9 +97,7 @@ module _ (s : Around) where
 
   -- that of all patches
   pub all_patches : (n : ℕ) (v : LevelFlows) → length s.patches ≤ n → AreFlowsOfRun s (take n s.patches) v → AreFlowsOf s v
-  all_patches n v le h =
-      let h' : AreFlowsOfRun s s.patches v = subst (λ (l : List Patch). AreFlowsOfRun s l v) (take_all n s.patches le) h in
-      record { flows = h'.flows; bounds = h'.bounds }
+  all_patches n v le h = subst (λ (l : List Patch). AreFlowsOfRun s l v) (take_all n s.patches le) h
 
 -- ---- one more of runs of as many patches
 

@@ -1,6 +1,8 @@
 -- The faces whose flows are added to words: those of open sides to the ledger's, those of coarse-fine edges to a register cell's.
-use Rattle.std.specs.Prelude.{ℕ, ◌+◌, ◌-◌, ◌*◌, ◌<◌, ◌==◌, if◌then◌else◌, Bool, ◌&&◌, not, cond, pos}
-use Rattle.std.specs.Prelude.{int_lt, List, ◌++◌, map, Contains, IsTrue}
+use Rattle.std.specs.Prelude.{ℕ, ◌+◌, ◌-◌, ◌*◌, ◌<◌, ◌==◌, if◌then◌else◌, Bool, ◌&&◌, ◌||◌, not, cond, pos}
+use Rattle.std.specs.Prelude.{int_lt, List, [], ◌∷◌, map, Contains, IsTrue}
+use Rattle.std.specs.declared.option.Option.{Option}
+use Rattle.std.specs.declared.option.Option.TheVariants.{None, Some}
 use Rattle.std.specs.List.{All, AllPairs, position_or_len}
 use Rattle.std.specs.Ordering.{int_eq}
 use Rattle.amr_box.specs.declared.Cell.{Cell}
@@ -12,13 +14,17 @@ use Rattle.amr_patch.specs.Patches.{box}
 use Rattle.amr_patch.specs.Orders.{comes_first}
 use Rattle.amr_faces.specs.Faces.{passing}
 use Rattle.amr_phase.specs.Plans.{total}
-use Rattle.amr_layout.specs.declared.adds.PatchFlows.{PatchFlows}
 use Rattle.amr_layout.specs.declared.FlowTo.{FlowTo}
 use Rattle.amr_layout.specs.Surroundings.{Around, domain_around, edge_count, edge_face, inside, inward, is_coarse_fine, is_open, outside}
 
 -- the flow through a face goes to a word
 abbrev pub flow_to : ℕ → Face → FlowTo
 flow_to w f = record { word = w; face = f }
+
+-- where it goes to one
+abbrev pub flow_to_any : Option ℕ → Face → List FlowTo
+flow_to_any None f = []
+flow_to_any (Some w) f = flow_to w f ∷ []
 
 -- the size of a flow that goes to a word
 abbrev pub size_to : (Face → ℕ) → ℕ → FlowTo → ℕ
@@ -28,30 +34,14 @@ size_to size word x = if x.word == word then size x.face else 0
 abbrev pub word_total : (Face → ℕ) → ℕ → List FlowTo → ℕ
 word_total size word = total (size_to size word)
 
--- ---- the ledger
+-- ---- where what flows through a face on the edges of a box goes, besides to cells
 
--- whether a face is one of an open side, beside a cell that isn't covered: what flows there beside a covered cell is added by the
--- finer level
+-- to the ledger where the face is one of an open side, beside a cell that isn't covered: what flows there beside a covered cell is
+-- added by the finer level
 unfoldable pub is_ledger_face : Around → Extent → Face → Bool
 is_ledger_face s b f = is_open s b f && not (is_covered s.finer (inside b f))
 
--- whether mass flows in through it, or out
-unfoldable pub is_inflow_face : Around → Extent → Face → Bool
-is_inflow_face s b f = is_ledger_face s b f && int_lt (pos 0) (inward s.problem s.level b f)
-
-unfoldable pub is_outflow_face : Around → Extent → Face → Bool
-is_outflow_face s b f = is_ledger_face s b f && int_lt (inward s.problem s.level b f) (pos 0)
-
--- those on the edges of a box
-unfoldable pub inflow_faces : Around → Extent → List Face
-inflow_faces s b = passing (is_inflow_face s b) (edge_face b) (edge_count b)
-
-unfoldable pub outflow_faces : Around → Extent → List Face
-outflow_faces s b = passing (is_outflow_face s b) (edge_face b) (edge_count b)
-
--- ---- register cells
-
--- the cell of the next coarser level on the other side of a face of the coarse-fine edge
+-- to a register cell where it lies on the coarse-fine edge: to the cell of the next coarser level on its other side
 unfoldable pub cell_beyond : Around → Extent → Face → Cell
 cell_beyond s b f = parent (home_cell (domain_around s) (outside b f))
 
@@ -59,29 +49,20 @@ cell_beyond s b f = parent (home_cell (domain_around s) (outside b f))
 unfoldable pub number_of : List Cell → Cell → ℕ
 number_of cells c = position_or_len (is_same_cell c) cells
 
--- register cell k has the gain at word 2 + 2k and the loss at word 3 + 2k. What flows out of the box is its gain.
+-- whether mass flows through the face, to the ledger or to a register cell
+unfoldable pub goes_on : Around → Extent → Face → Bool
+goes_on s b f = (is_ledger_face s b f || is_coarse_fine s b f) && not (int_eq (inward s.problem s.level b f) (pos 0))
+
+-- the word that it goes to: 0 is the ledger's inflow and 1 its outflow; register cell k has its gain at word 2 + 2k and its loss at
+-- word 3 + 2k. What flows out of the box is the gain of the cell beyond.
 unfoldable pub word_of : Around → Extent → Face → ℕ
 word_of s b f =
-    cond (int_lt (inward s.problem s.level b f) (pos 0)) (2 + 2 * number_of s.cells (cell_beyond s b f)) (3 + 2 * number_of s.cells (cell_beyond s b f))
+    cond (is_open s b f) (cond (int_lt (pos 0) (inward s.problem s.level b f)) 0 1)
+    (cond (int_lt (inward s.problem s.level b f) (pos 0)) (2 + 2 * number_of s.cells (cell_beyond s b f)) (3 + 2 * number_of s.cells (cell_beyond s b f)))
 
--- whether mass flows through a face of the coarse-fine edge
-unfoldable pub is_exchange_face : Around → Extent → Face → Bool
-is_exchange_face s b f = is_coarse_fine s b f && not (int_eq (inward s.problem s.level b f) (pos 0))
-
--- the flows of a box to register words: of such faces on its edges
-unfoldable pub register_flows : Around → Extent → List FlowTo
-register_flows s b = map (λ f. record { word = word_of s b f; face = f }) (passing (is_exchange_face s b) (edge_face b) (edge_count b))
-
--- ---- all
-
--- what flows through the faces on the edges of a box besides to its cells: to the ledger's inflow, word 0, to its outflow, word 1,
--- and to register words
+-- the flows of a box to words, through one face on its edges after another
 unfoldable pub flows_of : Around → Extent → List FlowTo
-flows_of s b = map (flow_to 0) (inflow_faces s b) ++ (map (flow_to 1) (outflow_faces s b) ++ register_flows s b)
-
--- the flows of a patch in one list
-abbrev pub in_one_list : PatchFlows → List FlowTo
-in_one_list x = map (flow_to 0) x.inflow.items ++ (map (flow_to 1) x.outflow.items ++ x.register.items)
+flows_of s b = map (λ f. flow_to (word_of s b f) f) (passing (goes_on s b) (edge_face b) (edge_count b))
 
 -- ---- the list of register cells
 

@@ -7,6 +7,8 @@ use Rattle.amr_box.specs.declared.Face.{Face}
 use Rattle.amr_def.specs.Domain.{domain}
 use Rattle.amr_faces.specs.Faces.{IsInDomain}
 use Rattle.amr_patch.specs.Gaps.{HasStarts}
+use Rattle.amr_patch.specs.declared.gaps.Starts.{Starts}
+use Rattle.amr_patch.specs.declared.lookup.Order.{Order}
 use Rattle.amr_patch.specs.declared.patches.Patch.{Patch}
 use Rattle.amr_patch.specs.Orders.{IsOrderOf}
 use Rattle.amr_patch.specs.Patches.{ArePatchesApart, box}
@@ -16,7 +18,7 @@ use Rattle.amr_layout.specs.declared.adds.Surroundings.{Surroundings}
 use Rattle.amr_layout.specs.declared.alone.LevelFlows.{LevelFlows}
 use Rattle.amr_layout.specs.Adds.{AreInOrder, HasCellsBeyond}
 use Rattle.amr_layout.specs.LevelFlowLists.{AreFlowsOfRun}
-use Rattle.amr_layout.specs.Places.{HasMask, level_borders, places_read, puts_of}
+use Rattle.amr_layout.specs.Places.{HasMask, level_borders, level_places, puts_of}
 use Rattle.amr_layout.specs.Surroundings.{Around, around, domain_around}
 
 abbrev pub around_of : Surroundings → Around
@@ -34,7 +36,7 @@ all_puts s each = map (λ q. puts_of (domain_around s) s.patches each (box q)) s
 
 -- the places that each reads
 abbrev pub all_places_read : Around → ℕ → List (List ℕ)
-all_places_read s each = places_read (domain_around s) s.patches each
+all_places_read s each = level_places (domain_around s) s.patches each
 
 -- each has a mask that tells the border faces which it reads
 abbrev pub HaveMasks : Around → ℕ → List PatchLayout → Type 0
@@ -42,15 +44,23 @@ HaveMasks s each = AllZip (HasMask (domain_around s) s.patches each) s.patches
 
 -- ---- flows to words
 
+-- the patch that has a cell can be found among patches: no cell is in two of them, and they stand in this order and start here
+pub record CanLookUp (order : Order) (ps : List Patch) (starts : Starts) : Type 0 where
+  pub order_of : IsOrderOf order ps
+  pub apart : ArePatchesApart ps
+  pub has_starts : HasStarts ps starts
+
+-- so it can among those of a level, and the number of a register cell among these
+pub record CanSearch (s : Surroundings) : Type 0 where
+  pub level : s.level ≤ 4
+  pub patches : CanLookUp s.order s.patches.now s.starts.now
+  pub ordered : AreInOrder s.cells.now
+  pub few : length s.cells.now ≤ 2 ^ 30
+
 -- what a search for the flows of a run of patches stands on
 abbrev pub MayFindFlows : Surroundings → List Patch → Type 0
 MayFindFlows s run =
-    (s.level ≤ 4)
-    × IsOrderOf s.order s.patches.now
-    × ArePatchesApart s.patches.now
-    × HasStarts s.patches.now s.starts.now
-    × AreInOrder s.cells.now
-    × (length s.cells.now ≤ 2 ^ 30)
+    CanSearch s
     × All (λ q. IsInDomain (domain s.problem.now s.level) (box q)) run
     × All (λ q. HasCellsBeyond (around_of s) (box q)) run
 

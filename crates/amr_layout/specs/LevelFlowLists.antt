@@ -12,24 +12,18 @@ use Rattle.amr_layout.specs.Surroundings.{Around}
 unfoldable pub level_flows : Around → List Patch → List FlowTo
 level_flows s qs = flat_map (λ q. flows_of s (box q)) qs
 
--- how many the patches before patch i have
-abbrev pub flows_before : Around → ℕ → ℕ
-flows_before s i = length (level_flows s (take i s.patches))
-
--- the list has the flows of all patches of the level, and the bounds say how many stand before those of each, and last how many
--- there are
-pub record AreFlowsOf (s : Around) (v : LevelFlows) : Type 0 where
-  pub flows : v.flows.items ≡ level_flows s s.patches
-  pub bounds : v.bounds.items ≡ map (flows_before s) (range_with_len 0 (length s.patches + 1))
-
--- how many the first i patches of a run have
+-- how many the first i of them have
 abbrev pub flows_in_first : Around → List Patch → ℕ → ℕ
-flows_in_first s run i = length (level_flows s (take i run))
+flows_in_first s qs i = length (level_flows s (take i qs))
 
--- the same of a run of the level's patches
-pub record AreFlowsOfRun (s : Around) (run : List Patch) (v : LevelFlows) : Type 0 where
-  pub flows : v.flows.items ≡ level_flows s run
-  pub bounds : v.bounds.items ≡ map (flows_in_first s run) (range_with_len 0 (length run + 1))
+-- the list has the flows of these patches, and the bounds say how many stand before those of each, and last how many there are
+pub record AreFlowsOfRun (s : Around) (qs : List Patch) (v : LevelFlows) : Type 0 where
+  pub flows : v.flows.items ≡ level_flows s qs
+  pub bounds : v.bounds.items ≡ map (flows_in_first s qs) (range_with_len 0 (length qs + 1))
+
+-- of all patches of the level
+abbrev pub AreFlowsOf : Around → LevelFlows → Type 0
+AreFlowsOf s v = AreFlowsOfRun s s.patches v
 
 -- ---- the part of a patch
 

@@ -3,7 +3,6 @@ pub mod Grounds
 pub mod Places
 pub mod Adds
 pub mod LevelFlowLists
-pub mod Flows
 pub mod Posts
 pub mod Arounds
 pub mod PartFlows

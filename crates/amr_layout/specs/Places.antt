@@ -1,5 +1,5 @@
 -- The places of a level's border faces: in which order they are numbered, who puts them and who reads them.
-use Rattle.std.specs.Prelude.{◌≡◌, ℕ, suc, ◌-◌, ◌/◌, ◌<◌, ◌==◌, Bool, ◌&&◌, cond, not}
+use Rattle.std.specs.Prelude.{◌≡◌, ℕ, suc, ◌+◌, ◌-◌, ◌/◌, ◌<◌, ◌==◌, Bool, ◌&&◌, cond, not}
 use Rattle.std.specs.Prelude.{List, [], ◌∷◌, ◌++◌, length, map, take, slice_index_or}
 use Rattle.std.specs.Global.{Vec}
 use Rattle.std.specs.List.{filter, flat_map, position_or_len, range_with_len}
@@ -9,6 +9,7 @@ use Rattle.amr_box.specs.Cells.{Extent, height, holds, width}
 use Rattle.amr_def.specs.Domain.{Domain, home_cell}
 use Rattle.amr_def.specs.Flux.{face, high_cell}
 use Rattle.amr_patch.specs.declared.patches.Patch.{Patch}
+use Rattle.amr_patch.specs.Gaps.{IsGap}
 use Rattle.amr_patch.specs.Patches.{box, in_patches}
 use Rattle.amr_faces.specs.Faces.{masked_faces, passing, x_end, y_end}
 use Rattle.amr_layout.specs.declared.PatchLayout.{PatchLayout}
@@ -70,8 +71,8 @@ unfoldable pub border_places : Domain → List Patch → ℕ → ℕ → List �
 border_places d ps each i = range_with_len (places_before d ps each i) (places_before d ps each (suc i) - places_before d ps each i)
 
 -- the places that each patch reads
-abbrev pub places_read : Domain → List Patch → ℕ → List (List ℕ)
-places_read d ps each = map (border_places d ps each) (range_with_len 0 (length ps))
+abbrev pub level_places : Domain → List Patch → ℕ → List (List ℕ)
+level_places d ps each = map (border_places d ps each) (range_with_len 0 (length ps))
 
 -- a patch has a mask that tells its border faces
 abbrev pub HasMask : Domain → List Patch → ℕ → Patch → PatchLayout → Type 0
@@ -80,24 +81,31 @@ HasMask d ps each q t = masked_faces (box q) t.mask.items ≡ borders_of d ps ea
 -- ---- puts so far
 
 -- the first border faces of a level have their places, and each patch has the puts that are its own
-pub record ArePut (d : Domain) (ps : List Patch) (done : List Face) (count : ℕ) (lots : List (Vec PutAt)) : Type 0 where
+pub record ArePut (d : Domain) (ps : List Patch) (done : List Face) (count : ℕ) (lists : List (Vec PutAt)) : Type 0 where
   pub places : count ≡ length done
-  pub lot_count : length lots ≡ length ps
-  pub each : (k : ℕ) (v : Vec PutAt) (q : Patch) → k < length ps → (slice_index_or lots k v).items ≡ puts_among d (box (slice_index_or ps k q)) done
+  pub list_count : length lists ≡ length ps
+  pub each : (k : ℕ) (v : Vec PutAt) (q : Patch) → k < length ps → (slice_index_or lists k v).items ≡ puts_among d (box (slice_index_or ps k q)) done
 
 -- no patch has a put yet
-pub record AreEmptyLots (n : ℕ) (lots : List (Vec PutAt)) : Type 0 where
-  pub count : length lots ≡ n
-  pub empty : (k : ℕ) (v : Vec PutAt) → k < n → (slice_index_or lots k v).items ≡ []
+pub record AreEmptyLists (n : ℕ) (lists : List (Vec PutAt)) : Type 0 where
+  pub count : length lists ≡ n
+  pub empty : (k : ℕ) (v : Vec PutAt) → k < n → (slice_index_or lists k v).items ≡ []
 
 -- a list of the face where the reader reads it, else none
 abbrev pub if_read : Domain → List Patch → Reader → Face → List Face
 if_read d ps r f = cond (leads_on d ps r.each r.patch f) (f ∷ []) []
 
+-- each patch has a list of puts, and no patch has a cell of the gap that was found last
+pub record ArePlacesOf (ps : List Patch) (a : Places) : Type 0 where
+  pub lists : length a.lists.items ≡ length ps
+  pub gap : IsGap ps a.near.gap
+
 -- whichever border faces had their places, these have the next ones
-abbrev pub HaveGot : Domain → List Patch → List Face → Places → Places → Type 0
-HaveGot d ps fs a b = (done : List Face) → ArePut d ps done a.count a.lots.items → ArePut d ps (done ++ fs) b.count b.lots.items
+pub record HaveGot (d : Domain) (ps : List Patch) (fs : List Face) (a b : Places) : Type 0 where
+  pub count : b.count ≡ a.count + length fs
+  pub places : ArePlacesOf ps b
+  pub put : (done : List Face) → ArePut d ps done a.count a.lists.items → ArePut d ps (done ++ fs) b.count b.lists.items
 
 -- all border faces have their places
 abbrev pub HaveAllGot : Domain → List Patch → ℕ → Places → Type 0
-HaveAllGot d ps each a = ArePut d ps (level_borders d ps each ps) a.count a.lots.items
+HaveAllGot d ps each a = ArePut d ps (level_borders d ps each ps) a.count a.lists.items

@@ -79,10 +79,6 @@ inward p l b f = cond (holds b (high_cell f)) (courant p l f) (neg_ℤ (courant 
 unfoldable pub is_open : Around → Extent → Face → Bool
 is_open s b f = not (in_domain (domain_around s) (home_cell (domain_around s) (outside b f)))
 
--- whether a cell stands for one of the domain that these patches don't have
-abbrev pub is_missing : Domain → List Patch → Cell → Bool
-is_missing d ps c = in_domain d (home_cell d c) && not (in_patches ps (home_cell d c))
-
 -- a cell that the level doesn't have: the face lies on the coarse-fine edge (Berger and Colella 1989)
 unfoldable pub is_coarse_fine : Around → Extent → Face → Bool
 is_coarse_fine s b f =

@@ -8,9 +8,9 @@ ghost use Rattle.amr_patch.specs.Orders.{IsOrderOf};
 ghost use Rattle.amr_faces.specs.Faces.{IsInDomain};
 ghost use Rattle.amr_patch.specs.Gaps.{HasStarts};
 ghost use Rattle.amr_phase.specs.Plans.{total};
-ghost use Rattle.amr_layout.specs.Arounds.{AreFlowsOfChunk, HasWordsFor, MayFindFlows, around_of};
+ghost use Rattle.amr_layout.specs.Arounds.{AreFlowsOfChunk, CanSearch, HasWordsFor, MayFindFlows, around_of};
 ghost use Rattle.amr_layout.specs.Surroundings.{edge_count};
-ghost use Rattle.amr_layout.specs.Adds.{HasRegisterCells};
+ghost use Rattle.amr_layout.specs.Adds.{HasCellsBeyond, HasRegisterCells};
 ghost use Rattle.amr_layout.specs.LevelFlowLists.{AreFlowsOf, AreFlowsOfRun};
 
 use crate::adds::Surroundings;
@@ -55,9 +55,7 @@ fn join_runs(
 ) -> Result<LevelFlows, NoMemory>
     requires all { length s.patches.now ≤ length runs.now * size }
     requires flows { (n : ℕ) (d : _) → n < length runs.now → IfOk (slice_index_or runs.now n d) (AreFlowsOfChunk (around_of s) size n) }
-    requires words { (n : ℕ) (d : _) → n < length runs.now → IfOk (slice_index_or runs.now n d) (HasWordsFor s) }
-    ensures flows { IfOk result (AreFlowsOf (around_of s.entry)) }
-    ensures words { IfOk result (HasWordsFor s.entry) }
+    ensures { IfOk result (AreFlowsOf (around_of s.entry)) }
 {
     let mut bounds = Vec::with_capacity(alloc, s.patches.len() + 1)?;
     bounds.push(0)?;
@@ -82,18 +80,14 @@ pub(crate) fn flows_by_runs<R: Threads + Sync>(
     size: usize,
 ) -> Result<LevelFlows, NoMemory>
     requires some { 0 < size }
-    requires level { s.level ≤ 4 }
-    requires order { IsOrderOf s.order s.patches.now }
-    requires apart { ArePatchesApart s.patches.now }
-    requires starts { HasStarts s.patches.now s.starts.now }
+    requires search { CanSearch s }
     requires inside { All (λ q. IsInDomain (domain s.problem.now s.level) (box q)) s.patches.now }
-    requires cells { HasRegisterCells (around_of s) }
-    ensures flows { IfOk result (AreFlowsOf (around_of s.entry)) }
-    ensures words { IfOk result (HasWordsFor s.entry) }
+    requires there { All (λ q. HasCellsBeyond (around_of s) (box q)) s.patches.now }
+    ensures { IfOk result (AreFlowsOf (around_of s.entry)) }
 {
     let of_run = move |_start: usize, run: &[Patch]| -> Result<LevelFlows, NoMemory>
         requires { MayFindFlows s run.now }
-        ensures { IfOk result (AreFlowsOfRun (around_of s.entry) run.entry.now) × IfOk result (HasWordsFor s.entry) }
+        ensures { IfOk result (AreFlowsOfRun (around_of s.entry) run.entry.now) }
     { flows_of_run(alloc, s, run) };
     let runs = map_chunks(rt, alloc, s.patches, size, &of_run)?;
     join_runs(alloc, s, size, &runs)
@@ -104,21 +98,26 @@ pub fn plan_adds_in_threads<R: Threads + Sync>(
     rt: &R,
     threads: usize,
     alloc: Global,
-    s: Surroundings<'_>,
+    surroundings: Surroundings<'_>,
 ) -> Result<LevelFlows, NoMemory>
-    requires level { s.level ≤ 4 }
-    requires order { IsOrderOf s.order s.patches.now }
-    requires apart { ArePatchesApart s.patches.now }
-    requires starts { HasStarts s.patches.now s.starts.now }
-    requires inside { All (λ q. IsInDomain (domain s.problem.now s.level) (box q)) s.patches.now }
-    requires cells { HasRegisterCells (around_of s) }
-    ensures flows { IfOk result (AreFlowsOf (around_of s.entry)) }
-    ensures words { IfOk result (HasWordsFor s.entry) }
-    ensures edges { OnOk result (total (λ q. edge_count (box q)) s.entry.patches.now ≤ 2 ^ 30) }
-    ensures few { OnOk result (length s.entry.cells.now ≤ 2 ^ 30) }
+    requires level { surroundings.level ≤ 4 }
+    requires order { IsOrderOf surroundings.order surroundings.patches.now }
+    requires apart { ArePatchesApart surroundings.patches.now }
+    requires starts { HasStarts surroundings.patches.now surroundings.starts.now }
+    requires inside { All (λ q. IsInDomain (domain surroundings.problem.now surroundings.level) (box q)) surroundings.patches.now }
+    requires cells { HasRegisterCells (around_of surroundings) }
+    ensures flows { IfOk result (AreFlowsOf (around_of surroundings.entry)) }
+    ensures words { IfOk result (HasWordsFor surroundings.entry) }
+    ensures edges { OnOk result (total (λ q. edge_count (box q)) surroundings.entry.patches.now ≤ 2 ^ 30) }
+    ensures few { OnOk result (length surroundings.entry.cells.now ≤ 2 ^ 30) }
 {
-    if threads < 2 || s.patches.len() < FEWEST {
-        return plan_adds(alloc, s);
+    if threads < 2 || surroundings.patches.len() < FEWEST {
+        return plan_adds(alloc, surroundings);
     }
-    flows_by_runs(rt, alloc, s, s.patches.len().div_ceil(threads))
+    flows_by_runs(
+        rt,
+        alloc,
+        surroundings,
+        surroundings.patches.len().div_ceil(threads),
+    )
 }

@@ -33,26 +33,26 @@ use std::alloc::Global;
 /// one beside a gap between the columns and rows where patches start.
 ///
 /// `NoMemory` is the only refusal.
-pub fn plan(alloc: Global, s: Surroundings<'_>, each: usize) -> Result<Layout, NoMemory>
+pub fn plan(alloc: Global, surroundings: Surroundings<'_>, each: usize) -> Result<Layout, NoMemory>
     requires some { 0 < each }
-    requires level { s.level ≤ 4 }
-    requires order { IsOrderOf s.order s.patches.now }
-    requires apart { ArePatchesApart s.patches.now }
-    requires starts { HasStarts s.patches.now s.starts.now }
-    requires inside { All (λ q. IsInDomain (domain s.problem.now s.level) (box q)) s.patches.now }
-    requires cells { HasRegisterCells (around_of s) }
-    ensures places { IfOk result (λ y. y.places ≡ length (all_borders (around_of s.entry) each)) }
-    ensures puts { IfOk result (λ y. map (λ t. t.puts.items) y.patches.items ≡ all_puts (around_of s.entry) each) }
-    ensures border { IfOk result (λ y. map (λ t. t.border.items) y.patches.items ≡ all_places_read (around_of s.entry) each) }
-    ensures masks { IfOk result (λ y. HaveMasks (around_of s.entry) each y.patches.items) }
-    ensures plan { (size : Face → ℕ) → AreSmallSizes size → IsPlan (patch_plan (around_of s.entry) each size) }
+    requires level { surroundings.level ≤ 4 }
+    requires order { IsOrderOf surroundings.order surroundings.patches.now }
+    requires apart { ArePatchesApart surroundings.patches.now }
+    requires starts { HasStarts surroundings.patches.now surroundings.starts.now }
+    requires inside { All (λ q. IsInDomain (domain surroundings.problem.now surroundings.level) (box q)) surroundings.patches.now }
+    requires cells { HasRegisterCells (around_of surroundings) }
+    ensures places { IfOk result (λ y. y.places ≡ length (all_borders (around_of surroundings.entry) each)) }
+    ensures puts { IfOk result (λ y. map (λ t. t.puts.items) y.patches.items ≡ all_puts (around_of surroundings.entry) each) }
+    ensures border { IfOk result (λ y. map (λ t. t.border.items) y.patches.items ≡ all_places_read (around_of surroundings.entry) each) }
+    ensures masks { IfOk result (λ y. HaveMasks (around_of surroundings.entry) each y.patches.items) }
+    ensures plan { (size : Face → ℕ) → AreSmallSizes size → IsPlan (patch_plan (around_of surroundings.entry) each size) }
 {
     place_borders(
         alloc,
-        &s.problem.domain(s.level),
-        s.patches,
-        s.order,
-        s.starts,
+        &surroundings.problem.domain(surroundings.level),
+        surroundings.patches,
+        surroundings.order,
+        surroundings.starts,
         each,
     )
 }

@@ -5,9 +5,10 @@ ghost use Rattle.std.specs.Option.{option_copied};
 ghost use Rattle.amr_box.specs.Cells.{cell};
 ghost use Rattle.amr_def.specs.State.{is_covered};
 ghost use Rattle.amr_patch.specs.Levels.{level_of};
-ghost use Rattle.amr_patch.specs.Patches.{ArePatchesApart, in_patches};
-ghost use Rattle.amr_patch.specs.Orders.{IsHolder, IsOrderOf};
-ghost use Rattle.amr_patch.specs.Gaps.{HasStarts, IsGap};
+ghost use Rattle.amr_patch.specs.Patches.{in_patches};
+ghost use Rattle.amr_patch.specs.Orders.{IsHolder};
+ghost use Rattle.amr_patch.specs.Gaps.{IsGap};
+ghost use Rattle.amr_layout.specs.Arounds.{CanLookUp};
 ghost use Rattle.amr_layout.specs.Surroundings.{IsReachable, finer_masses};
 
 use amr_box::{Bx, Cell};
@@ -28,9 +29,7 @@ pub(crate) fn look_beside(
     trace: &mut Trace,
     c: Cell,
 ) -> Option<usize>
-    requires order { IsOrderOf order patches.now }
-    requires apart { ArePatchesApart patches.now }
-    requires starts { HasStarts patches.now starts.now }
+    requires look_up { CanLookUp order patches.now starts.now }
     requires gap { IsGap patches.now trace.old.gap }
     ensures some { is_some result ≡ in_patches patches.now c }
     ensures found { IfSome result (IsHolder patches.now c) }

@@ -5,15 +5,14 @@ ghost use Rattle.std.specs.List.{AllZip, range_with_len};
 ghost use Rattle.amr_box.specs.declared.Face.{Face};
 ghost use Rattle.amr_box.specs.Cells.{IsNear, height, width};
 ghost use Rattle.amr_def.specs.Domain.{domain_of};
-ghost use Rattle.amr_patch.specs.Patches.{ArePatchesApart, box};
-ghost use Rattle.amr_patch.specs.Orders.{IsOrderOf};
-ghost use Rattle.amr_patch.specs.Gaps.{HasStarts, IsGap};
+ghost use Rattle.amr_patch.specs.Patches.{box};
 ghost use Rattle.amr_phase.specs.Plans.{total};
 ghost use Rattle.amr_layout.specs.Surroundings.{edge_count};
 ghost use Rattle.amr_faces.specs.Faces.{masked_faces};
 ghost use Rattle.amr_layout.specs.declared.PatchLayout.{PatchLayout};
-ghost use Rattle.amr_layout.specs.Places.{AreEmptyLots, HasMask, HaveAllGot, HaveGot, are_grouped, borders_of, holder_of};
-ghost use Rattle.amr_layout.specs.Places.{if_read, leads_on, level_borders, places_read, puts_of};
+ghost use Rattle.amr_layout.specs.Arounds.{CanLookUp};
+ghost use Rattle.amr_layout.specs.Places.{AreEmptyLists, ArePlacesOf, HasMask, HaveAllGot, HaveGot, are_grouped, borders_of, holder_of};
+ghost use Rattle.amr_layout.specs.Places.{if_read, leads_on, level_borders, level_places, puts_of};
 ghost use Rattle.amr_patch.specs.declared.patches.Patch.{Patch};
 
 use crate::faces::{high_cell, home_face};
@@ -30,7 +29,7 @@ use std::mem::replace;
 /// The border faces so far: the puts of each patch, how many places there are, and where the next look-up begins.
 #[derive(Drop)]
 pub(crate) struct Places {
-    pub(crate) lots: Vec<Vec<PutAt>>,
+    pub(crate) lists: Vec<Vec<PutAt>>,
     pub(crate) count: u32,
     near: Trace,
 }
@@ -54,14 +53,14 @@ fn are_grouped(each: usize, i: usize, j: usize) -> bool
 
 /// No puts for any patch, and room for as many as it may have: one for each row and column.
 fn no_puts(alloc: Global, patches: &[Patch]) -> Result<Vec<Vec<PutAt>>, NoMemory>
-    ensures { IfOk result (λ lots. AreEmptyLots (length patches.now) lots.items) }
+    ensures { IfOk result (λ lists. AreEmptyLists (length patches.now) lists.items) }
 {
-    let mut lots = Vec::with_capacity(alloc, patches.len())?;
+    let mut lists = Vec::with_capacity(alloc, patches.len())?;
     for i in 0..patches.len() {
         let b = patches[i].bx();
-        lots.push(Vec::with_capacity(alloc, (b.height() + b.width()) as usize)?)?;
+        lists.push(Vec::with_capacity(alloc, (b.height() + b.width()) as usize)?)?;
     }
-    Ok(lots)
+    Ok(lists)
 }
 
 /// Gives a face the next place if it is a border face of the reader, and the patch that owns it the put. It tells whether it is one.
@@ -75,17 +74,11 @@ fn put_border(
     f: Face,
 ) -> Result<bool, NoMemory>
     requires some { 0 < reader.each }
-    requires order { IsOrderOf order patches.now }
-    requires apart { ArePatchesApart patches.now }
-    requires starts { HasStarts patches.now starts.now }
-    requires gap { IsGap patches.now places.old.near.gap }
-    requires lots { length places.old.lots.items ≡ length patches.now }
+    requires look_up { CanLookUp order patches.now starts.now }
+    requires places { ArePlacesOf patches.now places.old }
     requires room { places.old.count < 2 ^ 31 }
     ensures told { IfOk result (λ told. told ≡ leads_on (domain_of dom.now) patches.now reader.each reader.patch f) }
-    ensures count { OnOk result (places.new.count ≡ places.old.count + length (if_read (domain_of dom.now) patches.now reader f)) }
-    ensures gap { OnOk result (IsGap patches.now places.new.near.gap) }
-    ensures lots { OnOk result (length places.new.lots.items ≡ length patches.now) }
-    ensures put { OnOk result (HaveGot (domain_of dom.now) patches.now (if_read (domain_of dom.now) patches.now reader f) places.old places.new) }
+    ensures got { OnOk result (HaveGot (domain_of dom.now) patches.now (if_read (domain_of dom.now) patches.now reader f) places.old places.new) }
 {
     let face = home_face(dom, f);
     let Some(owner) = look_beside(patches, order, starts, &mut places.near, high_cell(face)) else {
@@ -98,7 +91,7 @@ fn put_border(
         place: places.count,
         face,
     };
-    places.lots[owner].push(put)?;
+    places.lists[owner].push(put)?;
     places.count += 1;
     Ok(true)
 }
@@ -138,18 +131,12 @@ fn put_borders(
     requires some { 0 < reader.each }
     requires reader { reader.patch ≡ holder_of patches.now b.now.lo }
     requires near { IsNear b.now }
-    requires order { IsOrderOf order patches.now }
-    requires apart { ArePatchesApart patches.now }
-    requires starts { HasStarts patches.now starts.now }
-    requires gap { IsGap patches.now places.old.near.gap }
-    requires lots { length places.old.lots.items ≡ length patches.now }
+    requires look_up { CanLookUp order patches.now starts.now }
+    requires places { ArePlacesOf patches.now places.old }
     requires room { places.old.count + height b.now + width b.now ≤ 2 ^ 31 }
     requires entries { length mask.old ≡ (height b.now + 2) * (width b.now + 2) }
     ensures mask { OnOk result (masked_faces b.now mask.new ≡ borders_of (domain_of dom.now) patches.now reader.each b.now) }
-    ensures count { OnOk result (places.new.count ≡ places.old.count + length (borders_of (domain_of dom.now) patches.now reader.each b.now)) }
-    ensures gap { OnOk result (IsGap patches.now places.new.near.gap) }
-    ensures lots { OnOk result (length places.new.lots.items ≡ length patches.now) }
-    ensures put { OnOk result (HaveGot (domain_of dom.now) patches.now (borders_of (domain_of dom.now) patches.now reader.each b.now) places.old places.new) }
+    ensures got { OnOk result (HaveGot (domain_of dom.now) patches.now (borders_of (domain_of dom.now) patches.now reader.each b.now) places.old places.new) }
 {
     for j in 0..b.height() {
         let end = x_end(b, j);
@@ -190,18 +177,12 @@ fn reads_of(
     requires some { 0 < reader.each }
     requires reader { reader.patch ≡ holder_of patches.now b.now.lo }
     requires near { IsNear b.now }
-    requires order { IsOrderOf order patches.now }
-    requires apart { ArePatchesApart patches.now }
-    requires starts { HasStarts patches.now starts.now }
-    requires gap { IsGap patches.now places.old.near.gap }
-    requires lots { length places.old.lots.items ≡ length patches.now }
+    requires look_up { CanLookUp order patches.now starts.now }
+    requires places { ArePlacesOf patches.now places.old }
     requires room { places.old.count + height b.now + width b.now ≤ 2 ^ 31 }
     ensures border { IfOk result (λ t. t.border.items ≡ range_with_len places.old.count (places.new.count - places.old.count)) }
     ensures mask { IfOk result (λ t. masked_faces b.now t.mask.items ≡ borders_of (domain_of dom.now) patches.now reader.each b.now) }
-    ensures count { OnOk result (places.new.count ≡ places.old.count + length (borders_of (domain_of dom.now) patches.now reader.each b.now)) }
-    ensures gap { OnOk result (IsGap patches.now places.new.near.gap) }
-    ensures lots { OnOk result (length places.new.lots.items ≡ length patches.now) }
-    ensures put { OnOk result (HaveGot (domain_of dom.now) patches.now (borders_of (domain_of dom.now) patches.now reader.each b.now) places.old places.new) }
+    ensures got { OnOk result (HaveGot (domain_of dom.now) patches.now (borders_of (domain_of dom.now) patches.now reader.each b.now) places.old places.new) }
 {
     let count = (b.height() as usize + 2) * (b.width() as usize + 2);
     let mut mask = vec![in alloc; false; count]?;
@@ -228,14 +209,14 @@ fn mask_for(alloc: Global, mask: Vec<bool>, faces: u32) -> Vec<bool>
 }
 
 /// Gives each patch its puts.
-fn hand_puts(alloc: Global, lots: &mut [Vec<PutAt>], patches: &mut [PatchLayout])
-    requires { length lots.old ≡ length patches.old }
-    ensures puts { map (λ t. t.puts.items) patches.new ≡ map (λ v. v.items) lots.old }
+fn hand_puts(alloc: Global, lists: &mut [Vec<PutAt>], patches: &mut [PatchLayout])
+    requires { length lists.old ≡ length patches.old }
+    ensures puts { map (λ t. t.puts.items) patches.new ≡ map (λ v. v.items) lists.old }
     ensures border { map (λ t. t.border.items) patches.new ≡ map (λ t. t.border.items) patches.old }
     ensures mask { map (λ t. t.mask.items) patches.new ≡ map (λ t. t.mask.items) patches.old }
 {
     for i in 0..patches.len() {
-        let puts = replace(&mut lots[i], Vec::new(alloc));
+        let puts = replace(&mut lists[i], Vec::new(alloc));
         patches[i].puts = puts;
     }
 }
@@ -250,18 +231,16 @@ fn place_reads(
     each: usize,
 ) -> Result<(Places, Vec<PatchLayout>), NoMemory>
     requires some { 0 < each }
-    requires order { IsOrderOf order patches.now }
-    requires apart { ArePatchesApart patches.now }
-    requires starts { HasStarts patches.now starts.now }
+    requires look_up { CanLookUp order patches.now starts.now }
     requires few { total (λ q. edge_count (box q)) patches.now ≤ 2 ^ 30 }
     ensures put { IfOk result (λ r. HaveAllGot (domain_of dom.now) patches.now each r.0) }
-    ensures borders { IfOk result (λ r. map (λ t. t.border.items) r.1.items ≡ places_read (domain_of dom.now) patches.now each) }
+    ensures borders { IfOk result (λ r. map (λ t. t.border.items) r.1.items ≡ level_places (domain_of dom.now) patches.now each) }
     ensures count { IfOk result (λ r. length r.1.items ≡ length patches.now) }
     ensures masks { IfOk result (λ r. (i : ℕ) (q : Patch) (t : PatchLayout) → i < length patches.now
         → HasMask (domain_of dom.now) patches.now each (slice_index_or patches.now i q) (slice_index_or r.1.items i t)) }
 {
     let mut places = Places {
-        lots: no_puts(alloc, patches)?,
+        lists: no_puts(alloc, patches)?,
         count: 0,
         near: Trace {
             patch: 0,
@@ -296,18 +275,16 @@ pub(crate) fn place_borders(
     each: usize,
 ) -> Result<Layout, NoMemory>
     requires some { 0 < each }
-    requires order { IsOrderOf order patches.now }
-    requires apart { ArePatchesApart patches.now }
-    requires starts { HasStarts patches.now starts.now }
+    requires look_up { CanLookUp order patches.now starts.now }
     requires few { total (λ q. edge_count (box q)) patches.now ≤ 2 ^ 30 }
     ensures places { IfOk result (λ y. y.places ≡ length (level_borders (domain_of dom.now) patches.now each patches.now)) }
     ensures puts { IfOk result (λ y. map (λ t. t.puts.items) y.patches.items
         ≡ map (λ q. puts_of (domain_of dom.now) patches.now each (box q)) patches.now) }
-    ensures borders { IfOk result (λ y. map (λ t. t.border.items) y.patches.items ≡ places_read (domain_of dom.now) patches.now each) }
+    ensures borders { IfOk result (λ y. map (λ t. t.border.items) y.patches.items ≡ level_places (domain_of dom.now) patches.now each) }
     ensures masks { IfOk result (λ y. AllZip (HasMask (domain_of dom.now) patches.now each) patches.now y.patches.items) }
 {
     let (mut places, mut reads) = place_reads(alloc, dom, patches, order, starts, each)?;
-    hand_puts(alloc, &mut places.lots, &mut reads);
+    hand_puts(alloc, &mut places.lists, &mut reads);
     Ok(Layout {
         places: places.count,
         patches: reads,

@@ -15,7 +15,7 @@ use Rattle.amr_flux.specs.declared.fluxes.Sides.{Sides}
 use Rattle.amr_layout.specs.declared.FlowTo.{FlowTo}
 use Rattle.amr_layout.specs.Adds.{size_to, word_total}
 use Rattle.amr_lots.specs.Lots.{AreEdgeFlows, LieOn}
-use Rattle.amr_lots.proofs.SameSums.{total_same}
+use Rattle.amr_layout.proofs.Totals.{total_each}
 
 -- no flows add nothing
 pub none_added : (size : Face → ℕ) (word : ℕ) (flows : List FlowTo) → length flows ≡ 0 → word_total size word flows ≡ 0
@@ -58,7 +58,7 @@ module _ (size : Face → ℕ) (flows : List FlowTo) (old words : List ℕ) (n :
 pub flows_alike : (q : Patch) (s : Sides) (e e' : Fluxes) (word : ℕ) (flows : List FlowTo) → AreEdgeFlows q flows → LieOn s (box q) flows → ((f : Face) → is_edge_face (box q) f ≡ true → includes s (side_of (box q) f) ≡ true → e f ≡ e' f)
     → word_total (λ f. unsigned_abs (e f)) word flows ≡ word_total (λ f. unsigned_abs (e' f)) word flows
 flows_alike q s e e' word flows own lie same =
-    total_same (size_to (λ f. unsigned_abs (e f)) word) (size_to (λ f. unsigned_abs (e' f)) word) flows (λ k d lt.
+    total_each (size_to (λ f. unsigned_abs (e f)) word) (size_to (λ f. unsigned_abs (e' f)) word) flows (λ k d lt.
     let x = get_or flows k d in
     let o = own k d lt in
     ap (λ n. if x.word == word then n else 0) (ap unsigned_abs (same x.face o (lie k d lt))))

@@ -1,5 +1,5 @@
 -- The patches of a lot gone over one after another: each is ready for its step, and what they add makes the lot's totals.
-use Rattle.std.proofs.Common.{◌≡◌, ◌⊎◌, inl, inr, ℕ, ◌+◌, ◌^◌, ◌<◌, ◌≤◌, false, List, [], length, get_or, set, take, replicate, sym, ap, subst, ◌∙◌, arith}
+use Rattle.std.proofs.Common.{◌≡◌, ◌⊎◌, inl, inr, ℕ, ◌+◌, ◌<◌, ◌≤◌, false, List, [], length, get_or, set, take, replicate, sym, ap, subst, ◌∙◌, arith}
 use Rattle.std.specs.Prelude.{slice_index}
 use Rattle.std.specs.List.{All}
 use Rattle.std.proofs.lemmas.Bool.{cases_lt}
@@ -13,7 +13,7 @@ use Rattle.amr_flux.specs.declared.fluxes.Sides.{Sides}
 use Rattle.amr_layout.specs.declared.FlowTo.{FlowTo}
 use Rattle.amr_layout.specs.declared.alone.LevelFlows.{LevelFlows}
 use Rattle.amr_layout.specs.LevelFlowLists.{flow_lists, flows_at}
-use Rattle.amr_lots.specs.Lots.{AreEdgeFlows, AreReady, LieOn, MayStep, adds_to, lot_total}
+use Rattle.amr_lots.specs.Lots.{AreEdgeFlows, AreReady, CanAdd, LieOn, MayStep, adds_to, lot_total}
 use Rattle.amr_lots.specs.Ready.{HasFlowsIn}
 use Rattle.amr_register.proofs.EdgeLists.{zip_at}
 use Rattle.amr_lots.proofs.InPlaces.{AreChangedTo, none_changed, one_more_changed}
@@ -66,25 +66,21 @@ module _ (R : ℕ → Patch → Patch → Type 0) (p : Problem) (l columns many 
     pub may_step_here : MayStep p l (get_or rs n d)
     may_step_here = subst (MayStep p l) (sym patch_here) (ready.step n d lt)
 
-    pub owned_here : AreEdgeFlows (get_or rs n d) xs
-    owned_here = subst (λ (q : Patch). AreEdgeFlows q xs) (sym patch_here) (subst (AreEdgeFlows (get_or qs n d)) own (zip_at AreEdgeFlows qs (flow_lists v (length qs)) n d [] ready.flows lt))
-
-    pub lie_here : (s : Sides) → LieOn (get_or sides n s) (box (get_or rs n d)) xs
-    lie_here s = subst (λ (q : Patch). LieOn (get_or sides n s) (box q) xs) (sym patch_here) (subst (LieOn (get_or sides n s) (box (get_or qs n d))) (sym is) (flows.lie n d s lt))
-
     pub room_here : width (box (get_or rs n d)) ≤ columns
     room_here = subst (λ (q : Patch). width (box q) ≤ columns) (sym patch_here) (ready.room n d lt)
-
-    pub words_here : All (λ (x : FlowTo). x.word < many) xs
-    words_here = subst (All (λ (x : FlowTo). x.word < many)) own (ready.words n [] (omega (arith, lt, ready.count)))
 
     added : (word : ℕ) → lot_total p l (take (n + 1) qs) (take (n + 1) (flow_lists v (length qs))) word ≡ slice_index ws word + adds_to p l word (get_or rs n d) xs
     added word =
         lot_more p l word qs (flow_lists v (length qs)) n d [] lt (omega (arith, lt, ready.count))
         ∙ (λ i. sym (up.totals word) i + adds_to p l word (sym patch_here i) (own i))
 
-    pub fits_here : (word : ℕ) → slice_index ws word + adds_to p l word (get_or rs n d) xs < 2 ^ 63
-    fits_here word = omega (arith, added word, lot_take p l word qs (flow_lists v (length qs)) (n + 1), ready.fits word)
+    pub can_add_here : length ws ≡ many → CanAdd p l (get_or rs n d) xs (get_or sides n no_sides) ws
+    can_add_here count = record {
+      edges = subst (λ (q : Patch). AreEdgeFlows q xs) (sym patch_here) (subst (AreEdgeFlows (get_or qs n d)) own (zip_at AreEdgeFlows qs (flow_lists v (length qs)) n d [] ready.flows lt));
+      lie = subst (λ (q : Patch). LieOn (get_or sides n no_sides) (box q) xs) (sym patch_here) (subst (LieOn (get_or sides n no_sides) (box (get_or qs n d))) (sym is) (flows.lie n d no_sides lt));
+      words = subst (λ k. All (λ (x : FlowTo). x.word < k) xs) (sym count) (subst (All (λ (x : FlowTo). x.word < many)) own (ready.words n [] (omega (arith, lt, ready.count))));
+      fits = λ word. omega (arith, added word, lot_take p l word qs (flow_lists v (length qs)) (n + 1), ready.fits word);
+    }
 
     pub next_done : (r : Patch) (us : List ℕ) → R n (get_or rs n d) r → ((word : ℕ) → slice_index us word ≡ slice_index ws word + adds_to p l word (get_or rs n d) xs) → AreUpTo R p l qs (flow_lists v (length qs)) (set rs n r) us (n + 1)
     next_done r us one adds = record {

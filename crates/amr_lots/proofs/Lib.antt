@@ -3,7 +3,6 @@ mod HandedRuns
 pub mod InPlaces
 pub mod LotTotals
 pub mod InTurn
-mod SameSums
 mod Adding
 mod Filled
 mod Flat
@@ -22,7 +21,7 @@ pub mod Finishing
 pub mod Completing
 mod Reading
 mod SweptWork
-mod Duties
+mod DutyLaws
 mod Posts
 mod Looking
 mod CorrectedPatches

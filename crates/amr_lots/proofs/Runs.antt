@@ -16,10 +16,6 @@ drop_plus (suc m) n (x ∷ xs) = ap (λ k. drop k (x ∷ xs)) (more m n) ∙ dro
     more : (m n : ℕ) → suc m + n ≡ suc (m + n)
     more m n = omega arith
 
-nothing_taken : {A : Type 0} (k : ℕ) → take {A = A} k [] ≡ []
-nothing_taken zero = refl
-nothing_taken (suc k) = refl
-
 module _ {A : Type 0} (size : ℕ) (xs : List A) where
   pub run_length : (k : ℕ) → length (run size k xs) ≤ size
   run_length k = omega (arith, length-take size (drop (k * size) xs))

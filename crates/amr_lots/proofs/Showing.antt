@@ -23,7 +23,7 @@ use Rattle.amr_layout.specs.declared.FlowTo.{FlowTo}
 use Rattle.amr_layout.specs.Adds.{size_to, word_total}
 use Rattle.amr_lots.specs.Lots.{AreEdgeFlows, HasStepped, IsStepped, LevelStepFits, MayStep, adds_to, lot_total}
 use Rattle.amr_lots.specs.Works.{flows_to}
-use Rattle.amr_lots.proofs.SameSums.{total_same}
+use Rattle.amr_layout.proofs.Totals.{total_each}
 
 -- ---- one patch
 
@@ -66,7 +66,7 @@ module _ (p : Problem) (l : ℕ) (m old : Masses) (q : Patch) (shows : ShowsValu
   -- what it adds to a word
   pub adds_are : (word : ℕ) (xs : List FlowTo) → AreEdgeFlows q xs → adds_to p l word q xs ≡ word_total (λ f. unsigned_abs (flux_at p l m old f)) word xs
   adds_are word xs own =
-      total_same (size_to (λ f. unsigned_abs (flux_beside p l q f)) word) (size_to (λ f. unsigned_abs (flux_at p l m old f)) word) xs (λ k d lt.
+      total_each (size_to (λ f. unsigned_abs (flux_beside p l q f)) word) (size_to (λ f. unsigned_abs (flux_at p l m old f)) word) xs (λ k d lt.
       let x = get_or xs k d in
       ap (λ n. if x.word == word then n else 0) (size_at x.face (edge_is_face (box q) x.face q.near (own k d lt))))
 

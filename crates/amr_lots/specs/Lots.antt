@@ -1,5 +1,5 @@
 -- The step of a lot's patches, and what they add to words.
-use Rattle.std.specs.Prelude.{◌≡◌, ℕ, ◌+◌, ◌<◌, ◌≤◌, ◌^◌, true, pos, ◌+ℤ◌, ◌≤ℤ◌, ◌<ℤ◌, List, [], ◌∷◌, length, unsigned_abs, IsSome, IsTrue}
+use Rattle.std.specs.Prelude.{◌≡◌, ℕ, ◌+◌, ◌<◌, ◌≤◌, ◌^◌, true, pos, ◌+ℤ◌, ◌≤ℤ◌, ◌<ℤ◌, List, [], ◌∷◌, length, slice_index, unsigned_abs, IsSome, IsTrue}
 use Rattle.std.specs.List.{All, AllZip}
 use Rattle.amr_box.specs.declared.Cell.{Cell}
 use Rattle.amr_box.specs.declared.Face.{Face}
@@ -85,3 +85,17 @@ pub record IsSweptOn (p : Problem) (l : ℕ) (s : Sides) (q r : Patch) : Type 0 
 -- faces on these sides of a box
 abbrev pub LieOn : Sides → Extent → List FlowTo → Type 0
 LieOn s b = All (λ (x : FlowTo). includes s (side_of b x.face) ≡ true)
+
+-- ---- what a patch adds
+
+-- flows of a patch, which lie on these sides, may be added to totals of words
+pub record CanAdd (p : Problem) (l : ℕ) (q : Patch) (flows : List FlowTo) (s : Sides) (totals : List ℕ) : Type 0 where
+  pub edges : AreEdgeFlows q flows
+  pub lie : LieOn s (box q) flows
+  pub words : All (λ (x : FlowTo). x.word < length totals) flows
+  pub fits : (word : ℕ) → slice_index totals word + adds_to p l word q flows < 2 ^ 63
+
+-- they were
+pub record HasAdded (p : Problem) (l : ℕ) (q : Patch) (flows : List FlowTo) (totals after : List ℕ) : Type 0 where
+  pub count : length after ≡ length totals
+  pub adds : (word : ℕ) → slice_index after word ≡ slice_index totals word + adds_to p l word q flows

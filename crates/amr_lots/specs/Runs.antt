@@ -1,5 +1,5 @@
 -- Runs of a list, lots that are handed one each, and lots with one part changed.
-use Rattle.std.specs.Prelude.{ℕ, ◌≡◌, ◌*◌, List, length, take, drop}
+use Rattle.std.specs.Prelude.{ℕ, ◌≡◌, ◌+◌, ◌*◌, ◌/◌, ◌%◌, List, length, take, drop, max, min}
 use Rattle.std.specs.Global.{Box, Vec}
 use Rattle.amr_ghost.specs.declared.messages.Message.{Message}
 use Rattle.amr_patch.specs.declared.patches.Patch.{Patch}
@@ -9,6 +9,20 @@ use Rattle.amr_lots.specs.declared.lot.Lot.{Lot}
 -- the k-th run of a list in runs of this size, the last of which may be shorter
 abbrev pub run : {A : Type 0} → ℕ → ℕ → List A → List A
 run size k xs = take size (drop (k * size) xs)
+
+-- ---- how many runs
+
+-- how many runs of so many patches hold n of them
+abbrev pub run_count : ℕ → ℕ → ℕ
+run_count size n = n / size + min 1 (n % size)
+
+-- where so many lots are wanted of n patches, each has the fewest patches with which that many hold them all; the last may have fewer
+abbrev pub lot_size : ℕ → ℕ → ℕ
+lot_size wanted n = max 1 (run_count (max 1 wanted) n)
+
+-- so there are as many lots as are wanted, or the fewer that hold all patches. None is empty.
+abbrev pub lot_count : ℕ → ℕ → ℕ
+lot_count wanted n = run_count (lot_size wanted n) n
 
 -- ---- a lot with other parts
 

@@ -8,7 +8,7 @@ ghost use Rattle.amr_lots.specs.Lots.{AreReady, HasStepped, lot_total};
 ghost use Rattle.amr_lots.specs.Ready.{CanStep, HasFlowsIn};
 ghost use Rattle.amr_lots.specs.Stepping.{HasSteppedAlone};
 
-use crate::filling::begin;
+use crate::frames::begin;
 use crate::lot::Workspace;
 use crate::patches::step_patch;
 use amr_def::Problem;

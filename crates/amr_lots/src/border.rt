@@ -15,8 +15,8 @@ ghost use Rattle.amr_lots.specs.Stepping.{AreSizesAt, AreSizesOf, CanRead, CanSt
 ghost use Rattle.amr_lots.specs.Stepping.{HasSteppedWhere, HaveStepped, IsReadable, KeepsButSizes, MayStepIn, ReadsNone, ReadsSome};
 ghost use Rattle.amr_lots.specs.Works.{StandsFor, layouts_of, places_read};
 
+use crate::duties::send;
 use crate::lot::{Lot, Stage, Work, Workspace};
-use crate::serving::send;
 use amr_board::{Board, Seat};
 use amr_def::Problem;
 use amr_flux::{Room, update_by};

@@ -13,9 +13,9 @@ ghost use Rattle.amr_lots.specs.Serving.{IsServed, MayServe};
 ghost use Rattle.amr_lots.specs.Works.{KeepsTask, StandsFor, adds_of_work, puts_of_work};
 
 use crate::border::finish;
+use crate::duties::serve;
 use crate::lot::{Stage, Work};
-use crate::serving::serve;
-use crate::sweeping::sweep_work;
+use crate::sweep::sweep_work;
 use amr_board::{Board, Seat};
 use amr_def::Problem;
 use amr_workers::Job;

@@ -5,23 +5,25 @@
 
 mod alone;
 mod border;
-mod closing;
+mod counts;
 mod delivery;
-mod filling;
-mod handing;
+mod duties;
+mod exchange;
+mod finished;
+mod frames;
 mod job;
 mod lot;
 mod patches;
-mod serving;
-mod sweeping;
+mod sweep;
 
 pub use alone::step_alone;
 pub use border::finish;
-pub use closing::complete;
+pub use counts::{lot_count, lot_size};
 pub use delivery::exchange_messages;
-pub use filling::fill_lot;
-pub use handing::{exchange_before, exchange_edges, exchange_runs};
+pub use duties::serve;
+pub use exchange::{exchange_before, exchange_edges, exchange_runs};
+pub use finished::complete;
+pub use frames::fill_lot;
 pub use job::LevelWork;
 pub use lot::{Basis, Correction, Duty, Lot, Stage, Work, Workspace};
 pub use patches::sides_of;
-pub use serving::serve;

@@ -2,17 +2,14 @@
 
 ghost use Rattle.std.specs.Prelude.{◌≡◌, ◌≤◌, ℕ, ◌+◌, ◌<◌, ◌^◌, true, length, slice_index, unsigned_abs, IsTrue};
 ghost use Rattle.std.specs.List.{All};
-ghost use Rattle.amr_box.specs.declared.Cell.{Cell};
 ghost use Rattle.amr_box.specs.declared.Face.{Face};
 ghost use Rattle.amr_box.specs.Cells.{width};
-ghost use Rattle.amr_def.specs.Domain.{domain};
 ghost use Rattle.amr_patch.specs.Places.{is_edge_face};
-ghost use Rattle.amr_patch.specs.Patches.{SameMarks, box, flux_in, value_in};
-ghost use Rattle.amr_faces.specs.Faces.{IsInDomain, flux_beside, in_reach};
+ghost use Rattle.amr_patch.specs.Patches.{box, flux_in};
 ghost use Rattle.amr_flux.specs.Rooms.{widest};
 ghost use Rattle.amr_flux.specs.Sides.{includes, side_of};
 ghost use Rattle.amr_layout.specs.Adds.{word_total};
-ghost use Rattle.amr_lots.specs.Lots.{AreEdgeFlows, HasStepped, IsSweptOn, LieOn, MayStep, adds_to};
+ghost use Rattle.amr_lots.specs.Lots.{CanAdd, HasAdded, HasStepped, IsSweptOn, LieOn, MayStep};
 
 use amr_box::Bx;
 use amr_def::Problem;
@@ -60,17 +57,11 @@ pub(crate) fn sweep_patch(
     room: &mut Room,
     totals: &mut [u64],
 )
-    requires level { l ≤ 4 }
-    requires inside { IsInDomain (domain p.now l) (box patch.old) }
-    requires small { (c : Cell) → IsTrue (in_reach (box patch.old) c) → value_in patch.old c < 2 ^ 31 }
-    requires flows { AreEdgeFlows patch.old flows.now }
-    requires sides { LieOn sides (box patch.old) flows.now }
-    requires words { All (λ x. x.word < length totals.old) flows.now }
-    requires fits { (word : ℕ) → slice_index totals.old word + adds_to p.now l word patch.old flows.now < 2 ^ 63 }
+    requires step { MayStep p.now l patch.old }
+    requires adds { CanAdd p.now l patch.old flows.now sides totals.old }
     ensures swept { IsSweptOn p.now l sides patch.old patch.new }
     ensures room { widest room.new ≡ widest room.old }
-    ensures count { length totals.new ≡ length totals.old }
-    ensures totals { (word : ℕ) → slice_index totals.new word ≡ slice_index totals.old word + adds_to p.now l word patch.old flows.now }
+    ensures added { HasAdded p.now l patch.old flows.now totals.old totals.new }
 {
     if sides.are_none() {
         return;
@@ -91,15 +82,11 @@ pub(crate) fn step_patch(
     totals: &mut [u64],
 )
     requires step { MayStep p.now l patch.old }
-    requires flows { AreEdgeFlows patch.old flows.now }
-    requires sides { LieOn sides (box patch.old) flows.now }
+    requires adds { CanAdd p.now l patch.old flows.now sides totals.old }
     requires room { width (box patch.old) ≤ widest room.old }
-    requires words { All (λ x. x.word < length totals.old) flows.now }
-    requires fits { (word : ℕ) → slice_index totals.old word + adds_to p.now l word patch.old flows.now < 2 ^ 63 }
     ensures stepped { HasStepped p.now l patch.old patch.new }
     ensures room { widest room.new ≡ widest room.old }
-    ensures count { length totals.new ≡ length totals.old }
-    ensures totals { (word : ℕ) → slice_index totals.new word ≡ slice_index totals.old word + adds_to p.now l word patch.old flows.now }
+    ensures added { HasAdded p.now l patch.old flows.now totals.old totals.new }
 {
     sweep_patch(p, l, patch, flows, sides, room, totals);
     update_alone(p, l, patch, room);

@@ -14,5 +14,5 @@ pub use ends::{Asker, Worker};
 pub use errand::Errand;
 pub use letter::Letter;
 pub use mailbox::Mailbox;
-pub use rule::Kept;
+pub use rule::MailboxRule;
 pub use view::{Role, Turn, View};

@@ -9,7 +9,7 @@ use crate::errand::Errand;
 use crate::letter::Letter;
 use crate::patience::Patience;
 use crate::rule::{
-    Answering, Collecting, Dismissing, Halves, Kept, Looking, Opening, Posting, TakingBack,
+    Answering, Collecting, Dismissing, Halves, Looking, MailboxRule, Opening, Posting, TakingBack,
 };
 use crate::view::View;
 use atomic_table::{Refused, Table};
@@ -43,7 +43,7 @@ enum Found<O> {
 /// an end makes nobody wrong: the other end then waits.
 #[derive(Drop)]
 pub struct Mailbox<O, A, K, E: Errand<O, A, K>> {
-    table: Table<Letter<O, A>, View<O, K>, K, Kept<E>, Global>,
+    table: Table<Letter<O, A>, View<O, K>, K, MailboxRule<E>, Global>,
     attended: AtomicBool,
     asleep: AtomicBool,
 }

@@ -10,11 +10,11 @@ use atomic_table::{Play, Split, TableRule};
 use std::marker::PhantomData;
 
 /// The mailbox's invariant.
-pub struct Kept<E> {
+pub struct MailboxRule<E> {
     errand: PhantomData<E>,
 }
 
-impl<O, A, K, E: Errand<O, A, K>> TableRule<Letter<O, A>, View<O, K>, K> for Kept<E> {
+impl<O, A, K, E: Errand<O, A, K>> TableRule<Letter<O, A>, View<O, K>, K> for MailboxRule<E> {
     ghost holds = { λ key s. Rule E.may E.serves key s };
 
     ghost first = { λ key. first_view key };

@@ -6,10 +6,10 @@
 //! - `domain_box`: the domain of a level as a box.
 #![tactic(auto)]
 
-mod nesting;
+mod containment;
 mod projection;
 mod reach;
 
-pub use nesting::nested;
+pub use containment::nested;
 pub use projection::project;
 pub use reach::domain_box;

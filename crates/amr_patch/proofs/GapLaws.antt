@@ -41,9 +41,6 @@ abbrev AreNone : ℤ → ℤ → List ℤ → Type 0
 AreNone z last zs = All (λ s. (s ≤ℤ z) ⊎ (last <ℤ s)) zs
 
 module _ (zs : List ℤ) (z : ℤ) (k : ℕ) (parts : IsPartitionPoint (λ s. int_le s z ≡ true) (λ s. int_le s z ≡ false) zs k) where
-  pub none_above : (last : ℤ) → k ≡ length zs → AreNone z last zs
-  none_above last e j d lt = inl (le_from (slice_index_or zs j d) z (parts.0 j d (omega arith) (omega (arith, e, lt))))
-
   module _ (next : ℤ) (up : Ascends zs) (there : k < length zs) (at : next ≡ slice_index_or zs k next) where
     at_any : (d : ℤ) → slice_index_or zs k d ≡ next
     at_any d = get_or_default zs k d next there ∙ sym at

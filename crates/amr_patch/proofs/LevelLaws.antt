@@ -43,12 +43,6 @@ pairwise_at R (a ∷ xs) (b ∷ ys) (suc i) d e h lt = pairwise_at R xs ys i d e
 
 -- ---- blank patches
 
-in_blank : (bs : List Extent) (ps : List Patch) (c : Cell) → Pairwise IsBlank bs ps → in_patches ps c ≡ in_boxes bs c
-in_blank [] [] c h = refl
-in_blank [] (p ∷ ps) c h = absurd h
-in_blank (b ∷ bs) [] c h = absurd h
-in_blank (b ∷ bs) (p ∷ ps) c h = λ i. holds (h.0.of_box i) c || in_blank bs ps c h.1 i
-
 pub blank_boxes : (bs : List Extent) (ps : List Patch) → Pairwise IsBlank bs ps → map box ps ≡ bs
 blank_boxes [] [] h = refl
 blank_boxes [] (p ∷ ps) h = absurd h

@@ -5,6 +5,7 @@ pub mod Lookups
 pub mod SameBoxes
 pub mod Standing
 pub mod LevelLaws
+pub mod CopiedLevels
 pub mod Items
 pub mod Keeping
 pub mod Apart

@@ -11,6 +11,7 @@
 mod box_rows;
 mod copies;
 mod gaps;
+mod level_copies;
 mod levels;
 mod lists;
 mod lookup;

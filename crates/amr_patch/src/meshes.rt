@@ -1,10 +1,13 @@
 //! A mesh: the step, the rows of the ledger and the levels.
 
-ghost use Rattle.std.specs.Prelude.{◌≡◌, ◌<◌, true, false, map, length, slice_get, Some};
-ghost use Rattle.amr_patch.specs.Levels.{level_of};
+ghost use Rattle.std.specs.Prelude.{◌≡◌, ◌<◌, true, false, map, length, slice_get, Some, IfOk};
+ghost use Rattle.amr_patch.specs.Levels.{IsLevelCopy, level_of};
 ghost use Rattle.amr_patch.specs.Meshes.{is_spent, levels_of, state_of};
+ghost use Rattle.amr_patch.specs.Pairwise.{Pairwise};
 
+use crate::level_copies::copied_levels;
 use crate::levels::Level;
+use amr_causes::NoMemory;
 use amr_def::Row;
 
 /// A state, in levels: the step, the rows of the ledger up to it, and the levels from the coarsest on. Contracts see it as a
@@ -73,6 +76,20 @@ impl Mesh {
         let rows = std::mem::replace(&mut self.rows, no_rows);
         let levels = std::mem::replace(&mut self.levels, no_levels);
         (rows, levels)
+    }
+
+    /// A mesh with the same state, in patches with the same boxes, frames and marks. Its fluxes are 0. Memory is taken for rows,
+    /// levels and patches.
+    pub fn copy(&self) -> Result<Mesh, NoMemory>
+        requires { is_spent self.now ≡ false }
+        ensures state { IfOk result (λ m. state_of m ≡ state_of self.now) }
+        ensures levels { IfOk result (λ m. Pairwise IsLevelCopy (levels_of self.now) (levels_of m)) }
+        ensures whole { IfOk result (λ m. is_spent m ≡ false) }
+    {
+        let alloc = *self.rows.allocator();
+        let levels = copied_levels(alloc, &self.levels)?;
+        let rows = Vec::from_slice(alloc, &self.rows)?;
+        Ok(Mesh::of(self.step, rows, levels))
     }
 
     /// Whether the rows and the levels are taken.

@@ -1,11 +1,11 @@
 -- The fields of a payload, one kind after the other: what is read was written, and what is written is read.
-use Rattle.std.proofs.Common.{◌≡◌, ℕ, zero, suc, ◌+◌, true, List, [], ◌∷◌, ◌++◌, length, refl, sym, ap, subst, ◌∙◌, append_assoc, arith, flat_map}
+use Rattle.std.proofs.Common.{◌≡◌, ℕ, zero, suc, ◌+◌, true, List, [], ◌∷◌, ◌++◌, length, take, drop, get_or, ◌≤◌, ◌-◌, take_at, drop_at, take-append-drop, length-append, refl, sym, ap, subst, ◌∙◌, append_assoc, arith, flat_map}
 use Rattle.std.specs.Int.{w64}
 use Rattle.amr_def.specs.declared.problem.Row.{Row}
-use Rattle.amr_def.specs.Facts.{IsSmallRow}
+use Rattle.amr_def.specs.Facts.{IsSmallRow, no_row}
 use Rattle.amr_payload.specs.Payload.{number_bytes, row_bytes}
-use Rattle.amr_payload.specs.Tests.{Left, read, then_read, tested, read_also, read_number, read_row, has_no_flows, is_row_after, read_first_row, read_row_after, read_rows_after, read_rows}
-use Rattle.amr_payload.proofs.Readings.{left, AreBytes, was_read, was_tested, also_read, Took, took_then, took_none, took_same, Gives, gives, gives_then, gives_tested, gives_also, gives_at}
+use Rattle.amr_payload.specs.Tests.{Left, read, then_read, tested, read_also, read_number, read_row, has_no_flows, is_row_after, read_first_row, read_row_after, read_rows_after, read_rows, read_ledger}
+use Rattle.amr_payload.proofs.Readings.{left, AreBytes, was_read, was_tested, also_read, joined_read, Took, took_then, took_none, took_same, Gives, gives, gives_then, gives_tested, gives_also, gives_joined, gives_at}
 use Rattle.amr_payload.proofs.Numbers.{code_64, below_64}
 
 abbrev pub Each : {A : Type 0} → (A → Type 0) → List A → Type 0
@@ -138,3 +138,70 @@ rows_give n (v ∷ vs) k bs count ledger small =
     (row_gives v k (flat_map row_bytes vs ++ bs) small.0) (λ m. gives_tested (has_no_flows v) k m v (flat_map row_bytes vs ++ bs) ledger.0))
     (λ k. gives_also (read_rows_after n v (left k (flat_map row_bytes vs ++ bs))) v vs bs
     (subst (λ (n : ℕ). Gives (read_rows_after n v (left k (flat_map row_bytes vs ++ bs))) vs bs) same (rows_after_give v vs k bs ledger.1 small.1))))
+
+-- ---- rows that stand already
+
+each_joined : {A : Type 0} (P : A → Type 0) (xs ys : List A) → Each P xs → Each P ys → Each P (xs ++ ys)
+each_joined P [] ys one other = other
+each_joined P (x ∷ xs) ys one other = (one.0, each_joined P xs ys one.1 other)
+
+each_later : {A : Type 0} (P : A → Type 0) (xs ys : List A) → Each P (xs ++ ys) → Each P ys
+each_later P [] ys h = h
+each_later P (x ∷ xs) ys h = each_later P xs ys h.1
+
+chain_joined : (before : Row) (vs ws : List Row) → IsChain before vs → IsChain (get_or (before ∷ vs) (length vs) no_row) ws → IsChain before (vs ++ ws)
+chain_joined before [] ws one other = other
+chain_joined before (v ∷ vs) ws one other = (one.0, chain_joined v vs ws one.1 other)
+
+chain_later : (before : Row) (vs ws : List Row) → IsChain before (vs ++ ws) → IsChain (get_or (before ∷ vs) (length vs) no_row) ws
+chain_later before [] ws h = h
+chain_later before (v ∷ vs) ws h = chain_later v vs ws h.1
+
+-- the rows of a ledger, or none
+abbrev pub CanStand : List Row → Type 0
+CanStand [] = Unit {0}
+CanStand (v ∷ vs) = IsLedger (v ∷ vs) × Each IsSmallRow (v ∷ vs)
+
+pub record IsLaterRead (old : List Row) (n : ℕ) (vs : List Row) (r e : Left) : Type 0 where
+  pub took : Took (flat_map row_bytes (drop (length old) vs)) r e
+  pub count : length vs ≡ n + 1
+  pub ledger : IsLedger vs
+  pub small : Each IsSmallRow vs
+  pub older : take (length old) vs ≡ old
+
+pub ledger_took : (old : List Row) (n : ℕ) (r e : Left) (vs : List Row) → CanStand old → length old ≤ n → AreBytes r.bytes → read_ledger old n r ≡ read vs e → IsLaterRead old n vs r e
+ledger_took [] n r e vs stand before small h =
+    let all = rows_took n r e vs small h in
+    record { took = all.took; count = all.count; ledger = all.ledger; small = all.small; older = refl }
+ledger_took (v ∷ os) n r e vs stand before small h =
+    let last = get_or (v ∷ os) (length os) no_row in
+    let j = joined_read (v ∷ os) (read_rows_after (n - length os) last r) vs e h in
+    let more = rows_after_took (n - length os) last r e j.others small j.first in
+    let rest : drop (suc (length os)) (v ∷ (os ++ j.others)) ≡ j.others = drop_at (v ∷ os) j.others (suc (length os)) refl in
+    subst (λ (vs : List Row). IsLaterRead (v ∷ os) n vs r e) (sym j.all) (record {
+      took = took_same (flat_map row_bytes j.others) (flat_map row_bytes (drop (suc (length os)) (v ∷ (os ++ j.others)))) r e e (ap (λ ws. flat_map row_bytes ws) (sym rest)) refl more.took;
+      count = omega (arith, length-append os j.others, more.count, before);
+      ledger = (stand.0.0, chain_joined v os j.others stand.0.1 more.chain);
+      small = each_joined IsSmallRow (v ∷ os) j.others stand.1 more.small;
+      older = take_at (v ∷ os) j.others (suc (length os)) refl;
+    })
+
+later_gives : (v : Row) (os ws : List Row) (n k : ℕ) (bs : List ℕ) → length ws ≡ n - length os → IsChain v (os ++ ws) → Each IsSmallRow (os ++ ws)
+    → Gives (read_ledger (v ∷ os) n (left k (flat_map row_bytes ws ++ bs))) (v ∷ (os ++ ws)) bs
+later_gives v os ws n k bs count chain small =
+    let last = get_or (v ∷ os) (length os) no_row in
+    gives_joined (read_rows_after (n - length os) last (left k (flat_map row_bytes ws ++ bs))) (v ∷ os) ws bs
+    (subst (λ (m : ℕ). Gives (read_rows_after m last (left k (flat_map row_bytes ws ++ bs))) ws bs) count
+    (rows_after_give last ws k bs (chain_later v os ws chain) (each_later IsSmallRow os ws small)))
+
+pub ledger_gives : (old : List Row) (n : ℕ) (vs : List Row) (k : ℕ) (bs : List ℕ) → length vs ≡ n + 1 → IsLedger vs → Each IsSmallRow vs → take (length old) vs ≡ old
+    → Gives (read_ledger old n (left k (flat_map row_bytes (drop (length old) vs) ++ bs))) vs bs
+ledger_gives [] n vs k bs count ledger small older = rows_give n vs k bs count ledger small
+ledger_gives (v ∷ os) n vs k bs count ledger small older =
+    let ws = drop (suc (length os)) vs in
+    let is : v ∷ (os ++ ws) ≡ vs = ap (λ (xs : List Row). xs ++ ws) (sym older) ∙ take-append-drop (suc (length os)) vs in
+    let both : IsLedger (v ∷ (os ++ ws)) = subst (λ (vs : List Row). IsLedger vs) (sym is) ledger in
+    let fits : Each IsSmallRow (v ∷ (os ++ ws)) = subst (λ (vs : List Row). Each IsSmallRow vs) (sym is) small in
+    let sizes : length (v ∷ (os ++ ws)) ≡ n + 1 = ap (λ (vs : List Row). length vs) is ∙ count in
+    subst (λ (vs : List Row). Gives (read_ledger (v ∷ os) n (left k (flat_map row_bytes ws ++ bs))) vs bs) is
+    (later_gives v os ws n k bs (omega (arith, sizes, length-append os ws)) both.1 fits.1)

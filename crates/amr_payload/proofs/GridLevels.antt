@@ -3,7 +3,7 @@
 use Rattle.std.proofs.Common.{◌≡◌, ℕ, zero, suc, ◌+◌, ◌*◌, ◌^◌, ◌<◌, ◌≤◌, Bool, true, false, not, ◌&&◌, ◌||◌, ℤ, pos, ◌+ℤ◌, List, [], ◌∷◌, ◌++◌, length, map, refl, sym, ap, subst, ◌∙◌, arith, flat_map, ◌⊎◌, inl, inr, All, AllPairs, unwrap_or, is_some, if◌then◌else◌, IsTrue, nat_le, mul-zero}
 use Rattle.std.specs.Prelude.{slice_index, int_le}
 use Rattle.std.specs.List.{list_any}
-use Rattle.std.specs.Int.{Width, w32, int_rem_euclid}
+use Rattle.std.specs.Int.{w32, int_rem_euclid}
 use Rattle.std.specs.declared.option.Option.{Option}
 use Rattle.std.specs.declared.option.Option.TheVariants.{Some}
 use Rattle.std.proofs.lemmas.List.{length-map}
@@ -20,10 +20,10 @@ use Rattle.amr_def.specs.State.{Masses, mass_of}
 use Rattle.amr_def.specs.Facts.{IsAligned, IsLevel, growth}
 use Rattle.amr_def.proofs.SoundRun.{domain_proper}
 use Rattle.amr_def.proofs.Uncovered.{domain_box_cells}
-use Rattle.amr_payload.specs.Payload.{level_cells, box_bytes, level_bytes, number_bytes}
+use Rattle.amr_payload.specs.Payload.{Form, level_cells, box_bytes, level_bytes, masses_bytes, number_bytes}
 use Rattle.amr_payload.specs.Tests.{Grid, is_same_box, lies_in, is_multiple, is_aligned, meets, is_box_of, is_box_count, is_mass, masses_in, level_of, place_in}
 use Rattle.amr_payload.proofs.Fields.{Each}
-use Rattle.amr_payload.proofs.Numbers.{IsCode}
+use Rattle.amr_payload.proofs.Forms.{listed_bytes, masses_listed}
 use Rattle.amr_payload.proofs.Grids.{corners, AreGrids, grid_bytes, grids_bytes}
 use Rattle.amr_payload.proofs.Places.{each_cell, looked_up}
 
@@ -128,26 +128,26 @@ abbrev pub AreGridsApart : List Grid → Type 0
 AreGridsApart [] = Unit {0}
 AreGridsApart (g ∷ gs) = Each (λ k. meets k.box g.box ≡ false) gs × AreGridsApart gs
 
-module _ (w : Width) (code : IsCode w (2 ^ 32)) (p : Problem) (n l : ℕ) where
-  later_apart : (e : Extent) (earlier : List Extent) (gs : List Grid) → ((b : Extent) → list_any (meets b) earlier ≡ false → meets b e ≡ false) → AreGrids w code p n (suc l) earlier gs → Each (λ k. meets k.box e ≡ false) gs
+module _ (p : Problem) (n l : ℕ) where
+  later_apart : (e : Extent) (earlier : List Extent) (gs : List Grid) → ((b : Extent) → list_any (meets b) earlier ≡ false → meets b e ≡ false) → AreGrids p n (suc l) earlier gs → Each (λ k. meets k.box e ≡ false) gs
   later_apart e earlier [] among each = tt
   later_apart e earlier (g ∷ gs) among each = (
     among g.box (fine_box p l earlier g.box each.0.box).apart,
     later_apart e (g.box ∷ earlier) gs (λ b none. among b (or_parts (meets b g.box) (list_any (meets b) earlier) none).1) each.1,
   )
 
-  fine_apart : (earlier : List Extent) (gs : List Grid) → AreGrids w code p n (suc l) earlier gs → AreGridsApart gs
+  fine_apart : (earlier : List Extent) (gs : List Grid) → AreGrids p n (suc l) earlier gs → AreGridsApart gs
   fine_apart earlier [] each = tt
   fine_apart earlier (g ∷ gs) each = (
     later_apart g.box (g.box ∷ earlier) gs (λ b none. (or_parts (meets b g.box) (list_any (meets b) earlier) none).0) each.1,
     fine_apart (g.box ∷ earlier) gs each.1,
   )
 
-pub apart : (w : Width) (code : IsCode w (2 ^ 32)) (p : Problem) (n l : ℕ) (gs : List Grid) → is_box_count p l (length gs) ≡ true → AreGrids w code p n l [] gs → AreGridsApart gs
-apart w code p n zero [] count each = tt
-apart w code p n zero (g ∷ []) count each = (tt, tt)
-apart w code p n zero (g ∷ h ∷ gs) count each = let one : suc (suc (length gs)) ≡ 1 = eqb-true (suc (suc (length gs))) 1 count in absurd (omega arith)
-apart w code p n (suc l) gs count each = fine_apart w code p n l [] gs each
+pub apart : (p : Problem) (n l : ℕ) (gs : List Grid) → is_box_count p l (length gs) ≡ true → AreGrids p n l [] gs → AreGridsApart gs
+apart p n zero [] count each = tt
+apart p n zero (g ∷ []) count each = (tt, tt)
+apart p n zero (g ∷ h ∷ gs) count each = let one : suc (suc (length gs)) ≡ 1 = eqb-true (suc (suc (length gs))) 1 count in absurd (omega arith)
+apart p n (suc l) gs count each = fine_apart p n l [] gs each
 
 -- ---- the masses of a level's cells
 
@@ -169,36 +169,29 @@ agrees (g ∷ gs) h = (
       others ks away.1 rest.1,
     )
 
-flat_map-map : {A B C : Type 0} (f : B → List C) (g : A → B) (xs : List A) → flat_map f (map g xs) ≡ flat_map (λ x. f (g x)) xs
-flat_map-map f g [] = refl
-flat_map-map f g (x ∷ xs) = ap (λ ys. f (g x) ++ ys) (flat_map-map f g xs)
+pub masses_written : (f : Form) (m : Masses) (b : Extent) (ms : List ℕ) → length ms ≡ width b * height b → ((c : Cell) → holds b c ≡ true → m c ≡ Some (slice_index ms (place_in b c)))
+    → masses_bytes f m b ≡ listed_bytes f b ms
+masses_written f m b ms count at =
+    let each = each_cell (λ c. mass_of m c ≡ slice_index ms (place_in b c)) b (λ c held. ap (λ o. unwrap_or o 0) (at c held)) in
+    masses_listed f m b ∙ ap (λ (ns : List ℕ). listed_bytes f b ns) (map_same (mass_of m) (λ c. slice_index ms (place_in b c)) (cells_of b) each ∙ looked_up b ms count)
+  where
+    map_same : (f g : Cell → ℕ) (cs : List Cell) → Each (λ c. f c ≡ g c) cs → map f cs ≡ map g cs
+    map_same f g [] h = refl
+    map_same f g (c ∷ cs) h = λ i. h.0 i ∷ map_same f g cs h.1 i
 
-flat_map-same : {A C : Type 0} (f g : A → List C) (xs : List A) → Each (λ x. f x ≡ g x) xs → flat_map f xs ≡ flat_map g xs
-flat_map-same f g [] h = refl
-flat_map-same f g (x ∷ xs) h = λ i. h.0 i ++ flat_map-same f g xs h.1 i
+pub boxes_written : (f : Form) (p : Problem) (n l : ℕ) (m : Masses) (earlier : List Extent) (gs : List Grid) → AreGrids p n l earlier gs → Agrees m gs → flat_map (box_bytes f m) (map (λ g. g.box) gs) ≡ flat_map (grid_bytes f) gs
+unfolding box_bytes
+boxes_written f p n l m earlier [] each at = refl
+boxes_written f p n l m earlier (g ∷ gs) each at = λ i. grid_bytes_at i ++ boxes_written f p n l m (g.box ∷ earlier) gs each.1 at.1 i
+  where
+    grid_bytes_at : box_bytes f m g.box ≡ grid_bytes f g
+    grid_bytes_at = ap (λ (bs : List ℕ). corners g.box ++ bs) (masses_written f m g.box g.masses each.0.count at.0)
 
-pub masses_written : (w : Width) (m : Masses) (b : Extent) (ms : List ℕ) → length ms ≡ width b * height b → ((c : Cell) → holds b c ≡ true → m c ≡ Some (slice_index ms (place_in b c)))
-    → flat_map (λ c. number_bytes w (mass_of m c)) (cells_of b) ≡ flat_map (number_bytes w) ms
-masses_written w m b ms count at =
-    flat_map-same (λ c. number_bytes w (mass_of m c)) (λ c. number_bytes w (slice_index ms (place_in b c))) (cells_of b)
-    (each_cell (λ c. number_bytes w (mass_of m c) ≡ number_bytes w (slice_index ms (place_in b c))) b (λ c held. ap (λ o. number_bytes w (unwrap_or o 0)) (at c held)))
-    ∙ sym (flat_map-map (number_bytes w) (λ c. slice_index ms (place_in b c)) (cells_of b))
-    ∙ ap (λ (ns : List ℕ). flat_map (number_bytes w) ns) (looked_up b ms count)
-
-module _ (w : Width) (code : IsCode w (2 ^ 32)) (p : Problem) (n l : ℕ) where
-  pub boxes_written : (m : Masses) (earlier : List Extent) (gs : List Grid) → AreGrids w code p n l earlier gs → Agrees m gs → flat_map (box_bytes w m) (map (λ g. g.box) gs) ≡ flat_map (grid_bytes w code p n l) gs
-  unfolding box_bytes
-  boxes_written m earlier [] each at = refl
-  boxes_written m earlier (g ∷ gs) each at = λ i. grid_bytes_at i ++ boxes_written m (g.box ∷ earlier) gs each.1 at.1 i
-    where
-      grid_bytes_at : box_bytes w m g.box ≡ grid_bytes w code p n l g
-      grid_bytes_at = ap (λ (bs : List ℕ). corners g.box ++ bs) (masses_written w m g.box g.masses each.0.count at.0)
-
-  pub level_written : (gs : List Grid) → is_box_count p l (length gs) ≡ true → AreGrids w code p n l [] gs → level_bytes w (level_of gs) ≡ grids_bytes w code p n l gs
-  unfolding level_bytes level_of
-  level_written gs count each =
-      let boxes = boxes_written (masses_in gs) [] gs each (agrees gs (apart w code p n l gs count each)) in
-      λ i. number_bytes w32 (length-map gs (λ (g : Grid). g.box) i) ++ boxes i
+pub level_written : (f : Form) (p : Problem) (n l : ℕ) (gs : List Grid) → is_box_count p l (length gs) ≡ true → AreGrids p n l [] gs → level_bytes f (level_of gs) ≡ grids_bytes f gs
+unfolding level_bytes level_of
+level_written f p n l gs count each =
+    let boxes = boxes_written f p n l (masses_in gs) [] gs each (agrees gs (apart p n l gs count each)) in
+    λ i. number_bytes w32 (length-map gs (λ (g : Grid). g.box) i) ++ boxes i
 
 -- ---- the level is one of the problem
 
@@ -247,8 +240,8 @@ has_masses (g ∷ gs) c = by_test (holds g.box c) (masses_in gs c) (in_boxes (ma
     by_test true o r h = refl
     by_test false o r h = h
 
-module _ (w : Width) (code : IsCode w (2 ^ 32)) (p : Problem) (n l : ℕ) where
-  all_placed : (earlier : List Extent) (gs : List Grid) → AreGrids w code p n l earlier gs → Each (λ g. IsPlaced p l g.box) gs
+module _ (p : Problem) (n l : ℕ) where
+  all_placed : (earlier : List Extent) (gs : List Grid) → AreGrids p n l earlier gs → Each (λ g. IsPlaced p l g.box) gs
   all_placed earlier [] h = tt
   all_placed earlier (g ∷ gs) h = (placed p l earlier g.box h.0.box, all_placed (g.box ∷ earlier) gs h.1)
 
@@ -264,7 +257,7 @@ module _ (w : Width) (code : IsCode w (2 ^ 32)) (p : Problem) (n l : ℕ) where
   count_positive zero k h = let one : k ≡ 1 = eqb-true k 1 h in omega arith
   count_positive (suc l) k h = let some : 1 ≤ k = leb-true 1 k (and_parts (nat_le 1 k) (nat_le k (level_cells p l)) h).0 in omega arith
 
-  pub is_level : (gs : List Grid) → is_box_count p l (length gs) ≡ true → AreGrids w code p n l [] gs → IsLevel p l (level_of gs)
+  pub is_level : (gs : List Grid) → is_box_count p l (length gs) ≡ true → AreGrids p n l [] gs → IsLevel p l (level_of gs)
   unfolding level_of
   is_level gs count each =
       let all = all_placed [] gs each in
@@ -272,7 +265,7 @@ module _ (w : Width) (code : IsCode w (2 ^ 32)) (p : Problem) (n l : ℕ) where
       record {
         some = omega (arith, length-map gs (λ (g : Grid). g.box));
         proper = all_from IsProper (map (λ g. g.box) gs) (each_map IsProper (λ g. g.box) gs (proper_ones gs all));
-        disjoint = all_apart gs (apart w code p n l gs count each);
+        disjoint = all_apart gs (apart p n l gs count each);
         inside = λ c held. in_a_box (domain p l) gs c (inside_ones gs all) held;
         filled = λ c. has_masses gs c;
       }
@@ -284,7 +277,7 @@ module _ (w : Width) (code : IsCode w (2 ^ 32)) (p : Problem) (n l : ℕ) where
   mass_bound (m ∷ ms) zero h = leb-true (4 ^ l * m) (2 ^ 30 + growth p.max_level * (n + 1)) h.0
   mass_bound (m ∷ ms) (suc i) h = mass_bound ms i h.1
 
-  pub masses_bounded : (earlier : List Extent) (gs : List Grid) (c : Cell) → AreGrids w code p n l earlier gs → 4 ^ l * mass_of (masses_in gs) c ≤ 2 ^ 30 + growth p.max_level * (n + 1)
+  pub masses_bounded : (earlier : List Extent) (gs : List Grid) (c : Cell) → AreGrids p n l earlier gs → 4 ^ l * mass_of (masses_in gs) c ≤ 2 ^ 30 + growth p.max_level * (n + 1)
   masses_bounded earlier [] c h = omega (arith, mul-zero (4 ^ l))
   masses_bounded earlier (g ∷ gs) c h = by_test (holds g.box c) (masses_in gs c) (mass_bound g.masses (place_in g.box c) h.0.each) (masses_bounded (g.box ∷ earlier) gs c h.1)
     where
@@ -305,21 +298,21 @@ aligned_is n b h =
     let v = and_parts (is_multiple n b.lo.x) (is_multiple n b.lo.y) u.0 in
     record { west = multiple_is n b.lo.x v.0; south = multiple_is n b.lo.y v.1; east = multiple_is n (b.hi.x +ℤ pos 1) u.1; north = multiple_is n (b.hi.y +ℤ pos 1) t.1 }
 
-aligned_ones : (w : Width) (code : IsCode w (2 ^ 32)) (p : Problem) (n l : ℕ) (earlier : List Extent) (gs : List Grid) → AreGrids w code p n (suc l) earlier gs → Each (λ g. IsAligned p.blocking g.box) gs
-aligned_ones w code p n l earlier [] h = tt
-aligned_ones w code p n l earlier (g ∷ gs) h = (aligned_is p.blocking g.box (fine_box p l earlier g.box h.0.box).aligned, aligned_ones w code p n l (g.box ∷ earlier) gs h.1)
+aligned_ones : (p : Problem) (n l : ℕ) (earlier : List Extent) (gs : List Grid) → AreGrids p n (suc l) earlier gs → Each (λ g. IsAligned p.blocking g.box) gs
+aligned_ones p n l earlier [] h = tt
+aligned_ones p n l earlier (g ∷ gs) h = (aligned_is p.blocking g.box (fine_box p l earlier g.box h.0.box).aligned, aligned_ones p n l (g.box ∷ earlier) gs h.1)
 
-pub all_aligned : (w : Width) (code : IsCode w (2 ^ 32)) (p : Problem) (n l : ℕ) (gs : List Grid) → AreGrids w code p n (suc l) [] gs → All (IsAligned p.blocking) (level_of gs).boxes
+pub all_aligned : (p : Problem) (n l : ℕ) (gs : List Grid) → AreGrids p n (suc l) [] gs → All (IsAligned p.blocking) (level_of gs).boxes
 unfolding level_of
-all_aligned w code p n l gs h = all_from (IsAligned p.blocking) (map (λ g. g.box) gs) (each_map (IsAligned p.blocking) (λ g. g.box) gs (aligned_ones w code p n l [] gs h))
+all_aligned p n l gs h = all_from (IsAligned p.blocking) (map (λ g. g.box) gs) (each_map (IsAligned p.blocking) (λ g. g.box) gs (aligned_ones p n l [] gs h))
 
 -- the only box of level 0 is the domain
-pub base_boxes : (w : Width) (code : IsCode w (2 ^ 32)) (p : Problem) (n : ℕ) (gs : List Grid) → is_box_count p 0 (length gs) ≡ true → AreGrids w code p n 0 [] gs → (level_of gs).boxes ≡ domain_box (domain p 0) ∷ []
+pub base_boxes : (p : Problem) (n : ℕ) (gs : List Grid) → is_box_count p 0 (length gs) ≡ true → AreGrids p n 0 [] gs → (level_of gs).boxes ≡ domain_box (domain p 0) ∷ []
 unfolding level_of
-base_boxes w code p n [] count h = absurd (cc)
-base_boxes w code p n (g ∷ []) count h = ap (λ (b : Extent). b ∷ []) (base_box p [] g.box h.0.box)
-base_boxes w code p n (g ∷ k ∷ gs) count h = let one : suc (suc (length gs)) ≡ 1 = eqb-true (suc (suc (length gs))) 1 count in absurd (omega arith)
+base_boxes p n [] count h = absurd (cc)
+base_boxes p n (g ∷ []) count h = ap (λ (b : Extent). b ∷ []) (base_box p [] g.box h.0.box)
+base_boxes p n (g ∷ k ∷ gs) count h = let one : suc (suc (length gs)) ≡ 1 = eqb-true (suc (suc (length gs))) 1 count in absurd (omega arith)
 
-pub level_bounded : (w : Width) (code : IsCode w (2 ^ 32)) (p : Problem) (n l : ℕ) (gs : List Grid) (c : Cell) → AreGrids w code p n l [] gs → 4 ^ l * mass_of (level_of gs).masses c ≤ 2 ^ 30 + growth p.max_level * (n + 1)
+pub level_bounded : (p : Problem) (n l : ℕ) (gs : List Grid) (c : Cell) → AreGrids p n l [] gs → 4 ^ l * mass_of (level_of gs).masses c ≤ 2 ^ 30 + growth p.max_level * (n + 1)
 unfolding level_of
-level_bounded w code p n l gs c h = masses_bounded w code p n l [] gs c h
+level_bounded p n l gs c h = masses_bounded p n l [] gs c h

@@ -1,14 +1,15 @@
 -- Boxes with their masses, and levels: what is read was written, and what is written is read.
 use Rattle.std.proofs.Common.{◌≡◌, ℕ, zero, suc, ◌*◌, ◌^◌, ◌<◌, true, pos, List, [], ◌∷◌, ◌++◌, length, refl, sym, ap, subst, ◌∙◌, append_assoc, flat_map}
-use Rattle.std.specs.Int.{Width, w32}
+use Rattle.std.specs.Int.{w32}
 use Rattle.amr_box.specs.Cells.{cell, Extent, extent, width, height}
 use Rattle.amr_def.specs.declared.problem.Problem.{Problem}
 use Rattle.amr_def.specs.State.{Level}
-use Rattle.amr_payload.specs.Payload.{number_bytes, corner_bytes}
-use Rattle.amr_payload.specs.Tests.{Left, read, then_read, tested, read_also, read_number, Grid, read_box, is_box_of, is_mass, read_mass, read_masses, read_grid, read_grids, level_of, is_box_count, read_level}
+use Rattle.amr_payload.specs.Payload.{Form, number_bytes, corner_bytes}
+use Rattle.amr_payload.specs.Tests.{Left, read, then_read, tested, read_also, read_number, Grid, read_box, is_box_of, is_mass, read_box_masses, read_grid, read_grids, level_of, is_box_count, read_level}
 use Rattle.amr_payload.proofs.Readings.{left, AreBytes, was_read, was_tested, also_read, Took, took_then, took_none, took_same, Gives, gives, gives_then, gives_tested, gives_also, gives_at}
-use Rattle.amr_payload.proofs.Numbers.{IsCode, code_32}
+use Rattle.amr_payload.proofs.Numbers.{code_32}
 use Rattle.amr_payload.proofs.Fields.{Each, read_value, read_rest}
+use Rattle.amr_payload.proofs.Forms.{IsForm, listed_bytes}
 
 -- ---- boxes
 
@@ -67,163 +68,128 @@ pub box_gives : (b : Extent) (k : ℕ) (bs : List ℕ) → IsWritable b → Give
 box_gives b k bs h =
     subst (λ (b : Extent). Gives (read_box (left k (corners b ++ bs))) b bs) (sym h.is) (natural_gives h.x0 h.y0 h.x1 h.y1 k bs h.west h.south h.east h.north)
 
--- ---- masses
+-- ---- boxes with masses
 
-module _ (w : Width) (code : IsCode w (2 ^ 32)) (p : Problem) (n l : ℕ) where
-  pub record AreMassesRead (k : ℕ) (ms : List ℕ) (r e : Left) : Type 0 where
-    pub took : Took (flat_map (number_bytes w) ms) r e
-    pub count : length ms ≡ k
-    pub each : Each (λ m. is_mass p n l m ≡ true) ms
+abbrev pub grid_bytes : Form → Grid → List ℕ
+grid_bytes f g = corners g.box ++ listed_bytes f g.box g.masses
 
-  pub masses_took : (k : ℕ) (r e : Left) (ms : List ℕ) → AreBytes r.bytes → read_masses w p n l k r ≡ read ms e → AreMassesRead k ms r e
-  unfolding read_mass
-  masses_took zero r e [] small h = record { took = took_same [] [] r r e refl (read_rest [] [] r e h) (took_none r small); count = refl; each = tt }
-  masses_took zero r e (m ∷ ms) small h = absurd (cc)
-  masses_took (suc k) r e ms small h =
-      let a = was_read (read_mass w p n l r) (λ m a. read_also m (read_masses w p n l k a)) ms e h in
-      let t = was_read (read_number w r) (λ m a. tested (is_mass p n l m) r.place m a) a.value a.rest a.first in
-      let test = was_tested (is_mass p n l t.value) r.place t.value a.value t.rest a.rest t.second in
-      let others = also_read a.value (read_masses w p n l k a.rest) ms e a.second in
-      let took = took_same (number_bytes w t.value) (number_bytes w a.value) r t.rest a.rest (ap (λ m. number_bytes w m) test.value) test.rest (code.took r t.rest t.value small t.first) in
-      let more = masses_took k a.rest e others.others took.small others.first in
-      subst (λ (ms : List ℕ). AreMassesRead (suc k) ms r e) (sym others.all) (record {
-        took = took_then (number_bytes w a.value) (flat_map (number_bytes w) others.others) r a.rest e took more.took;
-        count = ap (λ k. suc k) more.count;
-        each = (subst (λ (m : ℕ). is_mass p n l m ≡ true) test.value test.passes, more.each);
-      })
+abbrev pub grids_bytes : Form → List Grid → List ℕ
+grids_bytes f gs = number_bytes w32 (length gs) ++ flat_map (grid_bytes f) gs
 
-  pub masses_give : (ms : List ℕ) (k : ℕ) (bs : List ℕ) → Each (λ m. is_mass p n l m ≡ true) ms → Each (λ m. m < 2 ^ 32) ms → Gives (read_masses w p n l (length ms) (left k (flat_map (number_bytes w) ms ++ bs))) ms bs
-  unfolding read_mass
-  masses_give [] k bs each small = gives k [] bs
-  masses_give (m ∷ ms) k bs each small =
-      let rest = flat_map (number_bytes w) ms ++ bs in
-      gives_at (λ r. read_masses w p n l (suc (length ms)) r) k (m ∷ ms) (number_bytes w m ++ flat_map (number_bytes w) ms ++ bs) (number_bytes w m ++ rest) bs (append_assoc (number_bytes w m) (flat_map (number_bytes w) ms) bs)
-      (gives_then (read_mass w p n l (left k (number_bytes w m ++ rest))) (λ m a. read_also m (read_masses w p n l (length ms) a)) m (m ∷ ms) rest bs
-      (gives_then (read_number w (left k (number_bytes w m ++ rest))) (λ m a. tested (is_mass p n l m) k m a) m m rest rest
-      (code.gives m k rest small.0) (λ j. gives_tested (is_mass p n l m) k j m rest each.0))
-      (λ k. gives_also (read_masses w p n l (length ms) (left k rest)) m ms bs (masses_give ms k bs each.1 small.1)))
+-- what is written fits
+pub record IsFit (g : Grid) : Type 0 where
+  pub box : IsWritable g.box
+  pub masses : Each (λ m. m < 2 ^ 32) g.masses
 
-  -- ---- boxes with masses
+pub record IsGrid (p : Problem) (n l : ℕ) (earlier : List Extent) (g : Grid) : Type 0 where
+  pub box : is_box_of p l earlier g.box ≡ true
+  pub count : length g.masses ≡ width g.box * height g.box
+  pub each : Each (λ m. is_mass p n l m ≡ true) g.masses
 
-  abbrev pub grid_bytes : Grid → List ℕ
-  grid_bytes g = corners g.box ++ flat_map (number_bytes w) g.masses
+abbrev pub AreGrids : Problem → ℕ → ℕ → List Extent → List Grid → Type 0
+AreGrids p n l earlier [] = Unit {0}
+AreGrids p n l earlier (g ∷ gs) = IsGrid p n l earlier g × AreGrids p n l (g.box ∷ earlier) gs
 
-  pub record IsGrid (earlier : List Extent) (g : Grid) : Type 0 where
-    pub box : is_box_of p l earlier g.box ≡ true
-    pub count : length g.masses ≡ width g.box * height g.box
-    pub each : Each (λ m. is_mass p n l m ≡ true) g.masses
-
+module _ (f : Form) (p : Problem) (n l : ℕ) (form : IsForm f p n l) where
   pub record IsGridRead (earlier : List Extent) (g : Grid) (r e : Left) : Type 0 where
-    pub took : Took (grid_bytes g) r e
-    pub grid : IsGrid earlier g
+    pub took : Took (grid_bytes f g) r e
+    pub grid : IsGrid p n l earlier g
 
   grid_of : Extent → List ℕ → Grid
   grid_of b ms = record { box = b; masses = ms }
 
-  pub grid_took : (earlier : List Extent) (r e : Left) (g : Grid) → AreBytes r.bytes → read_grid w p n l earlier r ≡ read g e → IsGridRead earlier g r e
+  pub grid_took : (earlier : List Extent) (r e : Left) (g : Grid) → AreBytes r.bytes → read_grid f p n l earlier r ≡ read g e → IsGridRead earlier g r e
   unfolding read_grid grid_of
   grid_took earlier r e g small h =
-      let a = was_read (read_box r) (λ b a. then_read (tested (is_box_of p l earlier b) r.place b a) (λ b a. then_read (read_masses w p n l (width b * height b) a) (λ ms c. read (grid_of b ms) c))) g e h in
-      let t = was_read (tested (is_box_of p l earlier a.value) r.place a.value a.rest) (λ b a. then_read (read_masses w p n l (width b * height b) a) (λ ms c. read (grid_of b ms) c)) g e a.second in
+      let a = was_read (read_box r) (λ b a. then_read (tested (is_box_of p l earlier b) r.place b a) (λ b a. then_read (read_box_masses f p n l b a) (λ ms c. read (grid_of b ms) c))) g e h in
+      let t = was_read (tested (is_box_of p l earlier a.value) r.place a.value a.rest) (λ b a. then_read (read_box_masses f p n l b a) (λ ms c. read (grid_of b ms) c)) g e a.second in
       let test = was_tested (is_box_of p l earlier a.value) r.place a.value t.value a.rest t.rest t.first in
-      let m = was_read (read_masses w p n l (width t.value * height t.value) t.rest) (λ ms c. read (grid_of t.value ms) c) g e t.second in
+      let m = was_read (read_box_masses f p n l t.value t.rest) (λ ms c. read (grid_of t.value ms) c) g e t.second in
       let box = took_same (corners a.value) (corners t.value) r a.rest t.rest (ap (λ (b : Extent). corners b) test.value) test.rest (box_took r a.rest a.value small a.first) in
-      let masses = masses_took (width t.value * height t.value) t.rest m.rest m.value box.small m.first in
+      let masses = form.took t.value t.rest m.rest m.value box.small m.first in
       let same : grid_of t.value m.value ≡ g = read_value (grid_of t.value m.value) g m.rest e m.second in
       subst (λ (g : Grid). IsGridRead earlier g r e) same (record {
-        took = took_same (grid_bytes (grid_of t.value m.value)) (grid_bytes (grid_of t.value m.value)) r m.rest e refl (read_rest (grid_of t.value m.value) g m.rest e m.second)
-            (took_then (corners t.value) (flat_map (number_bytes w) m.value) r t.rest m.rest box masses.took);
+        took = took_same (grid_bytes f (grid_of t.value m.value)) (grid_bytes f (grid_of t.value m.value)) r m.rest e refl (read_rest (grid_of t.value m.value) g m.rest e m.second)
+            (took_then (corners t.value) (listed_bytes f t.value m.value) r t.rest m.rest box masses.took);
         grid = record { box = subst (λ (b : Extent). is_box_of p l earlier b ≡ true) test.value test.passes; count = masses.count; each = masses.each };
       })
 
-  -- what is written fits
-  pub record IsFit (g : Grid) : Type 0 where
-    pub box : IsWritable g.box
-    pub masses : Each (λ m. m < 2 ^ 32) g.masses
-
-  pub grid_gives : (earlier : List Extent) (g : Grid) (k : ℕ) (bs : List ℕ) → IsGrid earlier g → IsFit g → Gives (read_grid w p n l earlier (left k (grid_bytes g ++ bs))) g bs
+  pub grid_gives : (earlier : List Extent) (g : Grid) (k : ℕ) (bs : List ℕ) → IsGrid p n l earlier g → IsFit g → Gives (read_grid f p n l earlier (left k (grid_bytes f g ++ bs))) g bs
   unfolding read_grid
   grid_gives earlier g k bs is fit =
-      let ms = flat_map (number_bytes w) g.masses ++ bs in
-      gives_at (λ r. read_grid w p n l earlier r) k g (grid_bytes g ++ bs) (corners g.box ++ ms) bs (append_assoc (corners g.box) (flat_map (number_bytes w) g.masses) bs)
-      (gives_then (read_box (left k (corners g.box ++ ms))) (λ b a. then_read (tested (is_box_of p l earlier b) k b a) (λ b a. then_read (read_masses w p n l (width b * height b) a) (λ ms c. read (record { box = b; masses = ms }) c))) g.box g ms bs
+      let ms = listed_bytes f g.box g.masses ++ bs in
+      gives_at (λ r. read_grid f p n l earlier r) k g (grid_bytes f g ++ bs) (corners g.box ++ ms) bs (append_assoc (corners g.box) (listed_bytes f g.box g.masses) bs)
+      (gives_then (read_box (left k (corners g.box ++ ms))) (λ b a. then_read (tested (is_box_of p l earlier b) k b a) (λ b a. then_read (read_box_masses f p n l b a) (λ ms c. read (record { box = b; masses = ms }) c))) g.box g ms bs
       (box_gives g.box k ms fit.box)
-      (λ j. gives_then (tested (is_box_of p l earlier g.box) k g.box (left j ms)) (λ b a. then_read (read_masses w p n l (width b * height b) a) (λ ms c. read (record { box = b; masses = ms }) c)) g.box g ms bs
+      (λ j. gives_then (tested (is_box_of p l earlier g.box) k g.box (left j ms)) (λ b a. then_read (read_box_masses f p n l b a) (λ ms c. read (record { box = b; masses = ms }) c)) g.box g ms bs
       (gives_tested (is_box_of p l earlier g.box) k j g.box ms is.box)
-      (λ j. gives_then (read_masses w p n l (width g.box * height g.box) (left j ms)) (λ ms c. read (record { box = g.box; masses = ms }) c) g.masses g bs bs
-      (subst (λ (c : ℕ). Gives (read_masses w p n l c (left j ms)) g.masses bs) is.count (masses_give g.masses j bs is.each fit.masses))
+      (λ j. gives_then (read_box_masses f p n l g.box (left j ms)) (λ ms c. read (record { box = g.box; masses = ms }) c) g.masses g bs bs
+      (form.gives g.box g.masses j bs is.count is.each fit.masses)
       (λ j. gives j g bs))))
 
-  abbrev pub AreGrids : List Extent → List Grid → Type 0
-  AreGrids earlier [] = Unit {0}
-  AreGrids earlier (g ∷ gs) = IsGrid earlier g × AreGrids (g.box ∷ earlier) gs
-
   pub record AreGridsRead (k : ℕ) (earlier : List Extent) (gs : List Grid) (r e : Left) : Type 0 where
-    pub took : Took (flat_map grid_bytes gs) r e
+    pub took : Took (flat_map (grid_bytes f) gs) r e
     pub count : length gs ≡ k
-    pub each : AreGrids earlier gs
+    pub each : AreGrids p n l earlier gs
 
-  pub grids_took : (k : ℕ) (earlier : List Extent) (r e : Left) (gs : List Grid) → AreBytes r.bytes → read_grids w p n l k earlier r ≡ read gs e → AreGridsRead k earlier gs r e
+  pub grids_took : (k : ℕ) (earlier : List Extent) (r e : Left) (gs : List Grid) → AreBytes r.bytes → read_grids f p n l k earlier r ≡ read gs e → AreGridsRead k earlier gs r e
   grids_took zero earlier r e [] small h = record { took = took_same [] [] r r e refl (read_rest [] [] r e h) (took_none r small); count = refl; each = tt }
   grids_took zero earlier r e (g ∷ gs) small h = absurd (cc)
   grids_took (suc k) earlier r e gs small h =
-      let a = was_read (read_grid w p n l earlier r) (λ g a. read_also g (read_grids w p n l k (g.box ∷ earlier) a)) gs e h in
+      let a = was_read (read_grid f p n l earlier r) (λ g a. read_also g (read_grids f p n l k (g.box ∷ earlier) a)) gs e h in
       let one = grid_took earlier r a.rest a.value small a.first in
-      let others = also_read a.value (read_grids w p n l k (a.value.box ∷ earlier) a.rest) gs e a.second in
+      let others = also_read a.value (read_grids f p n l k (a.value.box ∷ earlier) a.rest) gs e a.second in
       let more = grids_took k (a.value.box ∷ earlier) a.rest e others.others one.took.small others.first in
       subst (λ (gs : List Grid). AreGridsRead (suc k) earlier gs r e) (sym others.all) (record {
-        took = took_then (grid_bytes a.value) (flat_map grid_bytes others.others) r a.rest e one.took more.took;
+        took = took_then (grid_bytes f a.value) (flat_map (grid_bytes f) others.others) r a.rest e one.took more.took;
         count = ap (λ k. suc k) more.count;
         each = (one.grid, more.each);
       })
 
-  pub grids_give : (earlier : List Extent) (gs : List Grid) (k : ℕ) (bs : List ℕ) → AreGrids earlier gs → Each IsFit gs → Gives (read_grids w p n l (length gs) earlier (left k (flat_map grid_bytes gs ++ bs))) gs bs
+  pub grids_give : (earlier : List Extent) (gs : List Grid) (k : ℕ) (bs : List ℕ) → AreGrids p n l earlier gs → Each IsFit gs → Gives (read_grids f p n l (length gs) earlier (left k (flat_map (grid_bytes f) gs ++ bs))) gs bs
   grids_give earlier [] k bs each fit = gives k [] bs
   grids_give earlier (g ∷ gs) k bs each fit =
-      let rest = flat_map grid_bytes gs ++ bs in
-      gives_at (λ r. read_grids w p n l (suc (length gs)) earlier r) k (g ∷ gs) (grid_bytes g ++ flat_map grid_bytes gs ++ bs) (grid_bytes g ++ rest) bs (append_assoc (grid_bytes g) (flat_map grid_bytes gs) bs)
-      (gives_then (read_grid w p n l earlier (left k (grid_bytes g ++ rest))) (λ g a. read_also g (read_grids w p n l (length gs) (g.box ∷ earlier) a)) g (g ∷ gs) rest bs
+      let rest = flat_map (grid_bytes f) gs ++ bs in
+      gives_at (λ r. read_grids f p n l (suc (length gs)) earlier r) k (g ∷ gs) (grid_bytes f g ++ flat_map (grid_bytes f) gs ++ bs) (grid_bytes f g ++ rest) bs (append_assoc (grid_bytes f g) (flat_map (grid_bytes f) gs) bs)
+      (gives_then (read_grid f p n l earlier (left k (grid_bytes f g ++ rest))) (λ g a. read_also g (read_grids f p n l (length gs) (g.box ∷ earlier) a)) g (g ∷ gs) rest bs
       (grid_gives earlier g k rest each.0 fit.0)
-      (λ k. gives_also (read_grids w p n l (length gs) (g.box ∷ earlier) (left k rest)) g gs bs (grids_give (g.box ∷ earlier) gs k bs each.1 fit.1)))
+      (λ k. gives_also (read_grids f p n l (length gs) (g.box ∷ earlier) (left k rest)) g gs bs (grids_give (g.box ∷ earlier) gs k bs each.1 fit.1)))
 
   -- ---- a level
-
-  abbrev pub grids_bytes : List Grid → List ℕ
-  grids_bytes gs = number_bytes w32 (length gs) ++ flat_map grid_bytes gs
 
   pub record IsLevelRead (k : Level) (r e : Left) : Type 0 where
     pub grids : List Grid
     pub is : level_of grids ≡ k
-    pub took : Took (grids_bytes grids) r e
+    pub took : Took (grids_bytes f grids) r e
     pub count : is_box_count p l (length grids) ≡ true
-    pub each : AreGrids [] grids
+    pub each : AreGrids p n l [] grids
 
-  pub level_took : (r e : Left) (k : Level) → AreBytes r.bytes → read_level w p n l r ≡ read k e → IsLevelRead k r e
+  pub level_took : (r e : Left) (k : Level) → AreBytes r.bytes → read_level f p n l r ≡ read k e → IsLevelRead k r e
   unfolding read_level
   level_took r e k small h =
-      let a = was_read (read_number w32 r) (λ k a. then_read (tested (is_box_count p l k) r.place k a) (λ k a. then_read (read_grids w p n l k [] a) (λ gs b. read (level_of gs) b))) k e h in
-      let t = was_read (tested (is_box_count p l a.value) r.place a.value a.rest) (λ k a. then_read (read_grids w p n l k [] a) (λ gs b. read (level_of gs) b)) k e a.second in
+      let a = was_read (read_number w32 r) (λ k a. then_read (tested (is_box_count p l k) r.place k a) (λ k a. then_read (read_grids f p n l k [] a) (λ gs b. read (level_of gs) b))) k e h in
+      let t = was_read (tested (is_box_count p l a.value) r.place a.value a.rest) (λ k a. then_read (read_grids f p n l k [] a) (λ gs b. read (level_of gs) b)) k e a.second in
       let test = was_tested (is_box_count p l a.value) r.place a.value t.value a.rest t.rest t.first in
-      let g = was_read (read_grids w p n l t.value [] t.rest) (λ gs b. read (level_of gs) b) k e t.second in
+      let g = was_read (read_grids f p n l t.value [] t.rest) (λ gs b. read (level_of gs) b) k e t.second in
       let number = took_same (number_bytes w32 a.value) (number_bytes w32 t.value) r a.rest t.rest (ap (λ m. number_bytes w32 m) test.value) test.rest (code_32.took r a.rest a.value small a.first) in
       let grids = grids_took t.value [] t.rest g.rest g.value number.small g.first in
       record {
         grids = g.value;
         is = read_value (level_of g.value) k g.rest e g.second;
-        took = took_same (number_bytes w32 t.value ++ flat_map grid_bytes g.value) (grids_bytes g.value) r g.rest e (ap (λ m. number_bytes w32 m ++ flat_map grid_bytes g.value) (sym grids.count)) (read_rest (level_of g.value) k g.rest e g.second)
-            (took_then (number_bytes w32 t.value) (flat_map grid_bytes g.value) r t.rest g.rest number grids.took);
+        took = took_same (number_bytes w32 t.value ++ flat_map (grid_bytes f) g.value) (grids_bytes f g.value) r g.rest e (ap (λ m. number_bytes w32 m ++ flat_map (grid_bytes f) g.value) (sym grids.count)) (read_rest (level_of g.value) k g.rest e g.second)
+            (took_then (number_bytes w32 t.value) (flat_map (grid_bytes f) g.value) r t.rest g.rest number grids.took);
         count = subst (λ (m : ℕ). is_box_count p l m ≡ true) (test.value ∙ sym grids.count) test.passes;
         each = grids.each;
       }
 
-  pub level_gives : (gs : List Grid) (k : ℕ) (bs : List ℕ) → is_box_count p l (length gs) ≡ true → length gs < 2 ^ 32 → AreGrids [] gs → Each IsFit gs → Gives (read_level w p n l (left k (grids_bytes gs ++ bs))) (level_of gs) bs
+  pub level_gives : (gs : List Grid) (k : ℕ) (bs : List ℕ) → is_box_count p l (length gs) ≡ true → length gs < 2 ^ 32 → AreGrids p n l [] gs → Each IsFit gs → Gives (read_level f p n l (left k (grids_bytes f gs ++ bs))) (level_of gs) bs
   unfolding read_level
   level_gives gs k bs count few each fit =
-      let rest = flat_map grid_bytes gs ++ bs in
-      gives_at (λ r. read_level w p n l r) k (level_of gs) (grids_bytes gs ++ bs) (number_bytes w32 (length gs) ++ rest) bs (append_assoc (number_bytes w32 (length gs)) (flat_map grid_bytes gs) bs)
-      (gives_then (read_number w32 (left k (number_bytes w32 (length gs) ++ rest))) (λ m a. then_read (tested (is_box_count p l m) k m a) (λ m a. then_read (read_grids w p n l m [] a) (λ gs b. read (level_of gs) b))) (length gs) (level_of gs) rest bs
+      let rest = flat_map (grid_bytes f) gs ++ bs in
+      gives_at (λ r. read_level f p n l r) k (level_of gs) (grids_bytes f gs ++ bs) (number_bytes w32 (length gs) ++ rest) bs (append_assoc (number_bytes w32 (length gs)) (flat_map (grid_bytes f) gs) bs)
+      (gives_then (read_number w32 (left k (number_bytes w32 (length gs) ++ rest))) (λ m a. then_read (tested (is_box_count p l m) k m a) (λ m a. then_read (read_grids f p n l m [] a) (λ gs b. read (level_of gs) b))) (length gs) (level_of gs) rest bs
       (code_32.gives (length gs) k rest few)
-      (λ j. gives_then (tested (is_box_count p l (length gs)) k (length gs) (left j rest)) (λ m a. then_read (read_grids w p n l m [] a) (λ gs b. read (level_of gs) b)) (length gs) (level_of gs) rest bs
+      (λ j. gives_then (tested (is_box_count p l (length gs)) k (length gs) (left j rest)) (λ m a. then_read (read_grids f p n l m [] a) (λ gs b. read (level_of gs) b)) (length gs) (level_of gs) rest bs
       (gives_tested (is_box_count p l (length gs)) k j (length gs) rest count)
-      (λ j. gives_then (read_grids w p n l (length gs) [] (left j rest)) (λ gs b. read (level_of gs) b) gs (level_of gs) bs bs
+      (λ j. gives_then (read_grids f p n l (length gs) [] (left j rest)) (λ gs b. read (level_of gs) b) gs (level_of gs) bs bs
       (grids_give [] gs j bs each fit) (λ j. gives j (level_of gs) bs))))

@@ -1,6 +1,7 @@
 pub mod Readings
 pub mod Numbers
 pub mod Fields
+pub mod Forms
 pub mod Grids
 pub mod Places
 pub mod GridLevels
@@ -8,5 +9,6 @@ pub mod ReadStates
 pub mod Counting
 pub mod WriteLevels
 pub mod WriteStates
+pub mod Deltas
 pub mod Room
 pub mod Bytes

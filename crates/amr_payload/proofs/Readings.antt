@@ -1,6 +1,6 @@
 -- What a reading took from the bytes, and which bytes give a reading.
 use Rattle.std.proofs.Common.{◌≡◌, ℕ, suc, ◌<◌, Bool, true, false, List, [], ◌∷◌, ◌++◌, refl, sym, ap, subst, ◌∙◌, append_assoc, arith, All}
-use Rattle.amr_payload.specs.Tests.{Left, Reading, bad, read, then_read, tested, read_also}
+use Rattle.amr_payload.specs.Tests.{Left, Reading, bad, read, then_read, tested, read_also, read_joined}
 
 abbrev pub left : ℕ → List ℕ → Left
 left k bytes = record { place = k; bytes = bytes }
@@ -45,6 +45,15 @@ pub also_read : {A : Type 0} (a : A) (q : Reading (List A)) (vs : List A) (e : L
 also_read a (bad place) vs e h = absurd (cc)
 also_read a (read others rest) vs e h = record { others = others; first = let same : rest ≡ e = cc in ap (λ r. read others r) same; all = cc }
 
+pub record JoinedRead {A : Type 0} (some : List A) (q : Reading (List A)) (vs : List A) (e : Left) : Type 0 where
+  pub others : List A
+  pub first : q ≡ read others e
+  pub all : vs ≡ some ++ others
+
+pub joined_read : {A : Type 0} (some : List A) (q : Reading (List A)) (vs : List A) (e : Left) → read_joined some q ≡ read vs e → JoinedRead some q vs e
+joined_read some (bad place) vs e h = absurd (cc)
+joined_read some (read others rest) vs e h = record { others = others; first = let same : rest ≡ e = cc in ap (λ r. read others r) same; all = cc }
+
 -- ---- what it took
 
 pub record Took (bytes : List ℕ) (r e : Left) : Type 0 where
@@ -82,3 +91,6 @@ gives_also q a vs xs g = record { place = g.place; is = ap (λ q. read_also a q)
 
 pub gives_at : {A : Type 0} (q : Left → Reading A) (k : ℕ) (a : A) (xs ys bs : List ℕ) → xs ≡ ys → Gives (q (left k ys)) a bs → Gives (q (left k xs)) a bs
 gives_at q k a xs ys bs same g = record { place = g.place; is = ap (λ xs. q (left k xs)) same ∙ g.is }
+
+pub gives_joined : {A : Type 0} (q : Reading (List A)) (some vs : List A) (xs : List ℕ) → Gives q vs xs → Gives (read_joined some q) (some ++ vs) xs
+gives_joined q some vs xs g = record { place = g.place; is = ap (λ q. read_joined some q) g.is }

@@ -1,8 +1,8 @@
 -- The levels of a sound state are read back from their bytes.
-use Rattle.std.proofs.Common.{◌≡◌, ℕ, suc, ◌+◌, ◌*◌, ◌^◌, ◌<◌, ◌≤◌, Bool, true, false, not, ◌&&◌, ◌||◌, ℤ, pos, negsuc, ◌+ℤ◌, ◌≤ℤ◌, ◌<ℤ◌, List, [], ◌∷◌, ◌++◌, length, map, refl, sym, ap, subst, ◌∙◌, arith, flat_map, All, AllPairs, if◌then◌else◌, is_some, unwrap_or, nat_le, ◌==◌, mul-le-mul_right, mul-le-mul, append_assoc, ◌/◌, ◌%◌, Option, Some, None}
+use Rattle.std.proofs.Common.{◌≡◌, ℕ, suc, ◌+◌, ◌*◌, ◌^◌, ◌<◌, ◌≤◌, Bool, true, false, not, ◌&&◌, ◌||◌, ℤ, pos, negsuc, ◌+ℤ◌, ◌≤ℤ◌, ◌<ℤ◌, List, [], ◌∷◌, ◌++◌, length, map, refl, sym, ap, subst, ◌∙◌, arith, All, AllPairs, if◌then◌else◌, is_some, unwrap_or, nat_le, ◌==◌, mul-le-mul_right, mul-le-mul, append_assoc, ◌/◌, ◌%◌, Option, Some, None}
 use Rattle.std.specs.Prelude.{slice_index}
 use Rattle.std.specs.List.{list_any}
-use Rattle.std.specs.Int.{Width, int_rem_euclid}
+use Rattle.std.specs.Int.{int_rem_euclid}
 use Rattle.std.specs.Ordering.{int_eq}
 use Rattle.std.proofs.lemmas.Int.{ints}
 use Rattle.std.proofs.lemmas.Bool.{and_from, or_left, or_right, or_from, false_from_ne_true, le-leb, eq-eqb, not_from_false}
@@ -21,10 +21,10 @@ use Rattle.amr_def.proofs.Nesting.{in_domain-inside}
 use Rattle.amr_def.proofs.Sizes.{doubled_small}
 use Rattle.amr_def.proofs.Uncovered.{domain_box_cells}
 use Rattle.amr_def.proofs.Courants.{weighs}
-use Rattle.amr_payload.specs.Payload.{level_bytes, level_cells}
+use Rattle.amr_payload.specs.Payload.{Form, level_bytes, levels_bytes, level_cells}
 use Rattle.amr_payload.specs.Tests.{tested, read_also, Grid, is_same_box, lies_in, is_multiple, is_aligned, meets, is_box_of, is_mass, is_box_count, place_in, masses_in, level_of, surrounds, is_in_sync, read_level, read_finer, read_all_finer}
 use Rattle.amr_payload.proofs.Readings.{left, Gives, gives, gives_then, gives_tested, gives_also, gives_at}
-use Rattle.amr_payload.proofs.Numbers.{IsCode}
+use Rattle.amr_payload.proofs.Forms.{IsForm}
 use Rattle.amr_payload.proofs.Fields.{Each}
 use Rattle.amr_payload.proofs.Grids.{IsWritable, IsGrid, AreGrids, IsFit, grids_bytes, level_gives}
 use Rattle.amr_payload.proofs.Places.{all_cells, by_places, place_of, cell_of}
@@ -173,18 +173,18 @@ each_mass : (P : ℕ → Type 0) (m : Masses) (cs : List Cell) → ((c : Cell) �
 each_mass P m [] h = tt
 each_mass P m (c ∷ cs) h = (h c, each_mass P m cs h)
 
-module _ (w : Width) (code : IsCode w (2 ^ 32)) (p : Problem) (n l : ℕ) where
-  grid_fits : (m : Masses) (b : Extent) → l ≤ 4 → bound p n < 2 ^ 31 → ((c : Cell) → 4 ^ l * mass_of m c ≤ bound p n) → IsOf p l b → IsFit w code p n l (grid m b)
+module _ (p : Problem) (n l : ℕ) where
+  grid_fits : (m : Masses) (b : Extent) → l ≤ 4 → bound p n < 2 ^ 31 → ((c : Cell) → 4 ^ l * mass_of m c ≤ bound p n) → IsOf p l b → IsFit (grid m b)
   grid_fits m b deep small bounded h = record {
     box = writable p l b deep h;
     masses = each_mass (λ k. k < 2 ^ 32) m (cells_of b) (λ c. let most = weighs l (mass_of m c) (bound p n) (bounded c) in omega arith);
   }
 
-  grids_fit : (m : Masses) (bs : List Extent) → l ≤ 4 → bound p n < 2 ^ 31 → ((c : Cell) → 4 ^ l * mass_of m c ≤ bound p n) → Each (IsOf p l) bs → Each (IsFit w code p n l) (map (grid m) bs)
+  grids_fit : (m : Masses) (bs : List Extent) → l ≤ 4 → bound p n < 2 ^ 31 → ((c : Cell) → 4 ^ l * mass_of m c ≤ bound p n) → Each (IsOf p l) bs → Each (IsFit) (map (grid m) bs)
   grids_fit m [] deep small bounded h = tt
   grids_fit m (b ∷ bs) deep small bounded h = (grid_fits m b deep small bounded h.0, grids_fit m bs deep small bounded h.1)
 
-  one_grid : (m : Masses) (earlier : List Extent) (b : Extent) → is_box_of p l earlier b ≡ true → ((c : Cell) → 4 ^ l * mass_of m c ≤ bound p n) → IsGrid w code p n l earlier (grid m b)
+  one_grid : (m : Masses) (earlier : List Extent) (b : Extent) → is_box_of p l earlier b ≡ true → ((c : Cell) → 4 ^ l * mass_of m c ≤ bound p n) → IsGrid p n l earlier (grid m b)
   one_grid m earlier b box bounded = record {
     box = box;
     count = length-map (cells_of b) (mass_of m) ∙ length-cells_of b;
@@ -207,12 +207,12 @@ also_apart : (b : Extent) (earlier bs : List Extent) → Each (HaveNoCommonCell 
 also_apart b earlier [] one others = tt
 also_apart b earlier (c ∷ bs) one others = ((one.0, others.0), also_apart b earlier bs one.1 others.1)
 
-fine_grids : (w : Width) (code : IsCode w (2 ^ 32)) (p : Problem) (n l : ℕ) (m : Masses) (earlier bs : List Extent) → ((c : Cell) → 4 ^ suc l * mass_of m c ≤ bound p n) → Each (IsOf p (suc l)) bs → Each (IsAligned p.blocking) bs
-    → AllPairs HaveNoCommonCell bs → Each (λ b. Each (λ e. HaveNoCommonCell e b) earlier) bs → AreGrids w code p n (suc l) earlier (map (grid m) bs)
-fine_grids w code p n l m earlier [] bounded h aligned pairs apart = tt
-fine_grids w code p n l m earlier (b ∷ bs) bounded h aligned pairs apart = (
-  one_grid w code p n (suc l) m earlier b (fine_box_from p l earlier b h.0 aligned.0 apart.0) bounded,
-  fine_grids w code p n l m (b ∷ earlier) bs bounded h.1 aligned.1 (λ i j d before inside. pairs (suc i) (suc j) d (omega arith) (omega arith))
+fine_grids : (p : Problem) (n l : ℕ) (m : Masses) (earlier bs : List Extent) → ((c : Cell) → 4 ^ suc l * mass_of m c ≤ bound p n) → Each (IsOf p (suc l)) bs → Each (IsAligned p.blocking) bs
+    → AllPairs HaveNoCommonCell bs → Each (λ b. Each (λ e. HaveNoCommonCell e b) earlier) bs → AreGrids p n (suc l) earlier (map (grid m) bs)
+fine_grids p n l m earlier [] bounded h aligned pairs apart = tt
+fine_grids p n l m earlier (b ∷ bs) bounded h aligned pairs apart = (
+  one_grid p n (suc l) m earlier b (fine_box_from p l earlier b h.0 aligned.0 apart.0) bounded,
+  fine_grids p n l m (b ∷ earlier) bs bounded h.1 aligned.1 (λ i j d before inside. pairs (suc i) (suc j) d (omega arith) (omega arith))
       (also_apart b earlier bs (each_from (HaveNoCommonCell b) bs (λ k d inside. pairs 0 (suc k) d (omega arith) (omega arith))) apart.1),
 )
 
@@ -222,23 +222,23 @@ none_earlier (b ∷ bs) = (tt, none_earlier bs)
 
 -- ---- levels are read back
 
-module _ (w : Width) (code : IsCode w (2 ^ 32)) (p : Problem) (n : ℕ) (small : bound p n < 2 ^ 31) where
-  level_back : (l : ℕ) (k : Level) (j : ℕ) (bs : List ℕ) → l ≤ 4 → IsGood p n l k → is_box_count p l (length k.boxes) ≡ true → length k.boxes < 2 ^ 32 → AreGrids w code p n l [] (grids_of k) → Gives (read_level w p n l (left j (level_bytes w k ++ bs))) k bs
+module _ (fs : ℕ → Form) (p : Problem) (n : ℕ) (forms : (l : ℕ) → IsForm (fs l) p n l) (small : bound p n < 2 ^ 31) where
+  level_back : (l : ℕ) (k : Level) (j : ℕ) (bs : List ℕ) → l ≤ 4 → IsGood p n l k → is_box_count p l (length k.boxes) ≡ true → length k.boxes < 2 ^ 32 → AreGrids p n l [] (grids_of k) → Gives (read_level (fs l) p n l (left j (level_bytes (fs l) k ++ bs))) k bs
   level_back l k j bs deep good count few each =
       let kept = level_kept k good.level.filled in
       let sizes : length k.boxes ≡ length (grids_of k) = sym (length-map k.boxes (grid k.masses)) in
       let count_of : is_box_count p l (length (grids_of k)) ≡ true = subst (λ (c : ℕ). is_box_count p l c ≡ true) sizes count in
-      let fit = grids_fit w code p n l k.masses k.boxes deep small good.bounded (each_of p l k.boxes good.level.proper good.level.inside) in
-      let bytes : level_bytes w k ≡ grids_bytes w code p n l (grids_of k) = sym (ap (λ (e : Level). level_bytes w e) kept) ∙ level_written w code p n l (grids_of k) count_of each in
-      let given = level_gives w code p n l (grids_of k) j bs count_of (subst (λ (c : ℕ). c < 2 ^ 32) sizes few) each fit in
-      subst (λ (e : Level). Gives (read_level w p n l (left j (level_bytes w k ++ bs))) e bs) kept
-      (gives_at (λ r. read_level w p n l r) j (level_of (grids_of k)) (level_bytes w k ++ bs) (grids_bytes w code p n l (grids_of k) ++ bs) bs (ap (λ (xs : List ℕ). xs ++ bs) bytes) given)
+      let fit = grids_fit p n l k.masses k.boxes deep small good.bounded (each_of p l k.boxes good.level.proper good.level.inside) in
+      let bytes : level_bytes (fs l) k ≡ grids_bytes (fs l) (grids_of k) = sym (ap (λ (e : Level). level_bytes (fs l) e) kept) ∙ level_written (fs l) p n l (grids_of k) count_of each in
+      let given = level_gives (fs l) p n l (forms l) (grids_of k) j bs count_of (subst (λ (c : ℕ). c < 2 ^ 32) sizes few) each fit in
+      subst (λ (e : Level). Gives (read_level (fs l) p n l (left j (level_bytes (fs l) k ++ bs))) e bs) kept
+      (gives_at (λ r. read_level (fs l) p n l r) j (level_of (grids_of k)) (level_bytes (fs l) k ++ bs) (grids_bytes (fs l) (grids_of k) ++ bs) bs (ap (λ (xs : List ℕ). xs ++ bs) bytes) given)
 
-  base_grids : (k : Level) (es : List Extent) → es ≡ domain_box (domain p 0) ∷ [] → ((c : Cell) → 4 ^ 0 * mass_of k.masses c ≤ bound p n) → AreGrids w code p n 0 [] (map (grid k.masses) es)
+  base_grids : (k : Level) (es : List Extent) → es ≡ domain_box (domain p 0) ∷ [] → ((c : Cell) → 4 ^ 0 * mass_of k.masses c ≤ bound p n) → AreGrids p n 0 [] (map (grid k.masses) es)
   unfolding is_box_of
-  base_grids k es is bounded = subst (λ (es : List Extent). AreGrids w code p n 0 [] (map (grid k.masses) es)) (sym is) (one_grid w code p n 0 k.masses [] (domain_box (domain p 0)) (domain_itself (domain_box (domain p 0))) bounded, tt)
+  base_grids k es is bounded = subst (λ (es : List Extent). AreGrids p n 0 [] (map (grid k.masses) es)) (sym is) (one_grid p n 0 k.masses [] (domain_box (domain p 0)) (domain_itself (domain_box (domain p 0))) bounded, tt)
 
-  pub base_back : (k : Level) (j : ℕ) (bs : List ℕ) → IsGood p n 0 k → k.boxes ≡ domain_box (domain p 0) ∷ [] → Gives (read_level w p n 0 (left j (level_bytes w k ++ bs))) k bs
+  pub base_back : (k : Level) (j : ℕ) (bs : List ℕ) → IsGood p n 0 k → k.boxes ≡ domain_box (domain p 0) ∷ [] → Gives (read_level (fs 0) p n 0 (left j (level_bytes (fs 0) k ++ bs))) k bs
   base_back k j bs good boxes =
       let one : length k.boxes ≡ 1 = ap (λ (es : List Extent). length es) boxes in
       level_back 0 k j bs (omega arith) good (eq-eqb (length k.boxes) 1 one) (omega arith) (base_grids k k.boxes boxes good.bounded)
@@ -250,30 +250,30 @@ module _ (w : Width) (code : IsCode w (2 ^ 32)) (p : Problem) (n : ℕ) (small :
       let most : p.nx * 2 ^ l * (p.ny * 2 ^ l) ≤ 4096 * 4096 = mul-le-mul wide tall in
       omega (arith, domain_cells p l, most)
 
-  pub fine_back : (l : ℕ) (k : Level) (j : ℕ) (bs : List ℕ) → suc l ≤ 4 → IsGood p n (suc l) k → All (IsAligned p.blocking) k.boxes → Gives (read_level w p n (suc l) (left j (level_bytes w k ++ bs))) k bs
+  pub fine_back : (l : ℕ) (k : Level) (j : ℕ) (bs : List ℕ) → suc l ≤ 4 → IsGood p n (suc l) k → All (IsAligned p.blocking) k.boxes → Gives (read_level (fs (suc l)) p n (suc l) (left j (level_bytes (fs (suc l)) k ++ bs))) k bs
   fine_back l k j bs deep good aligned =
       let few = few_boxes p l k good.level aligned in
       let most = cells_small l (omega arith) in
       let some : 1 ≤ length k.boxes = omega (arith, good.level.some) in
       level_back (suc l) k j bs deep good (and_from (nat_le 1 (length k.boxes)) (nat_le (length k.boxes) (level_cells p l)) (le-leb 1 (length k.boxes) some) (le-leb (length k.boxes) (level_cells p l) few)) (omega arith)
-      (fine_grids w code p n l k.masses [] k.boxes good.bounded (each_of p (suc l) k.boxes good.level.proper good.level.inside) (each_from (IsAligned p.blocking) k.boxes aligned) good.level.disjoint (none_earlier k.boxes))
+      (fine_grids p n l k.masses [] k.boxes good.bounded (each_of p (suc l) k.boxes good.level.proper good.level.inside) (each_from (IsAligned p.blocking) k.boxes aligned) good.level.disjoint (none_earlier k.boxes))
 
-  pub finer_back : (l : ℕ) (below k : Level) (j : ℕ) (bs : List ℕ) → suc l ≤ 4 → IsOver p n l below k → Gives (read_finer w p n l below (left j (level_bytes w k ++ bs))) k bs
+  pub finer_back : (l : ℕ) (below k : Level) (j : ℕ) (bs : List ℕ) → suc l ≤ 4 → IsOver p n l below k → Gives (read_finer (fs (suc l)) p n l below (left j (level_bytes (fs (suc l)) k ++ bs))) k bs
   unfolding read_finer
   finer_back l below k j bs deep over =
-      gives_then (read_level w p n (suc l) (left j (level_bytes w k ++ bs))) (λ k a. tested (surrounds (domain p l) below.boxes k.boxes && is_in_sync (domain p l) below.masses k.masses) j k a) k k bs bs
+      gives_then (read_level (fs (suc l)) p n (suc l) (left j (level_bytes (fs (suc l)) k ++ bs))) (λ k a. tested (surrounds (domain p l) below.boxes k.boxes && is_in_sync (domain p l) below.masses k.masses) j k a) k k bs bs
       (fine_back l k j bs deep over.good over.aligned)
       (λ i. gives_tested (surrounds (domain p l) below.boxes k.boxes && is_in_sync (domain p l) below.masses k.masses) j i k bs
       (and_from (surrounds (domain p l) below.boxes k.boxes) (is_in_sync (domain p l) below.masses k.masses) over.around over.sync))
 
-  pub all_finer_back : (l : ℕ) (below : Level) (ks : List Level) (j : ℕ) (bs : List ℕ) → l + length ks ≤ 4 → IsTower p n l below ks → Gives (read_all_finer w p n (length ks) l below (left j (flat_map (level_bytes w) ks ++ bs))) ks bs
+  pub all_finer_back : (l : ℕ) (below : Level) (ks : List Level) (j : ℕ) (bs : List ℕ) → l + length ks ≤ 4 → IsTower p n l below ks → Gives (read_all_finer fs p n (length ks) l below (left j (levels_bytes fs (suc l) ks ++ bs))) ks bs
   all_finer_back l below [] j bs deep tower = gives j [] bs
   all_finer_back l below (k ∷ ks) j bs deep tower =
-      let rest = flat_map (level_bytes w) ks ++ bs in
-      gives_at (λ r. read_all_finer w p n (suc (length ks)) l below r) j (k ∷ ks) (level_bytes w k ++ flat_map (level_bytes w) ks ++ bs) (level_bytes w k ++ rest) bs (append_assoc (level_bytes w k) (flat_map (level_bytes w) ks) bs)
-      (gives_then (read_finer w p n l below (left j (level_bytes w k ++ rest))) (λ k a. read_also k (read_all_finer w p n (length ks) (suc l) k a)) k (k ∷ ks) rest bs
+      let rest = levels_bytes fs (suc (suc l)) ks ++ bs in
+      gives_at (λ r. read_all_finer fs p n (suc (length ks)) l below r) j (k ∷ ks) (level_bytes (fs (suc l)) k ++ levels_bytes fs (suc (suc l)) ks ++ bs) (level_bytes (fs (suc l)) k ++ rest) bs (append_assoc (level_bytes (fs (suc l)) k) (levels_bytes fs (suc (suc l)) ks) bs)
+      (gives_then (read_finer (fs (suc l)) p n l below (left j (level_bytes (fs (suc l)) k ++ rest))) (λ k a. read_also k (read_all_finer fs p n (length ks) (suc l) k a)) k (k ∷ ks) rest bs
       (finer_back l below k j rest (omega arith) tower.0)
-      (λ i. gives_also (read_all_finer w p n (length ks) (suc l) k (left i rest)) k ks bs (all_finer_back (suc l) k ks i bs (omega arith) tower.1)))
+      (λ i. gives_also (read_all_finer fs p n (length ks) (suc l) k (left i rest)) k ks bs (all_finer_back (suc l) k ks i bs (omega arith) tower.1)))
 
 -- ---- two levels of a sound state
 

@@ -1,3 +1,4 @@
 pub mod Payload
 pub mod Tests
+pub mod Delta
 pub mod Laws

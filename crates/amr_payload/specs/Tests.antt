@@ -2,18 +2,19 @@
 -- many bytes stand before it. A payload is bad at the place that belongs to the first test that fails.
 --     test                                                                                    place
 --     a field lies wholly inside the payload                                                  the field
---     the step is one of the problem                                                          the step
+--     the step is one of the problem, and after the rows of the ledger that stand already     the step
 --     row 0 has no flows; the mass of a later row is that before it and its net inflow        the row's mass
 --     the number of levels                                                                    that number
 --     the number of boxes of a level                                                          that number
 --     a box: that of level 0, or inside, proper, aligned and apart from the earlier ones      its low x
+--     a flag of a row of a box is 0 or 1, whichever the older state asks for                  the flag
 --     a mass is within its bound                                                              the mass
 --     a level above level 0 is nested, and the one below it in sync                           the number of its boxes
 --     the last row's mass is that of level 0                                                  the last row's mass
 --     nothing follows                                                                         the end of the last field
 -- (profile)
 use Rattle.std.specs.Prelude.{ℕ, zero, suc, ◌+◌, ◌-◌, ◌*◌, ◌^◌, Bool, true, false, not, if◌then◌else◌, ◌&&◌, ◌||◌, ◌==◌}
-use Rattle.std.specs.Prelude.{nat_le, ℤ, pos, ◌+ℤ◌, ◌-ℤ◌, List, [], ◌∷◌, length, drop, map, slice_index}
+use Rattle.std.specs.Prelude.{nat_le, ℤ, pos, ◌+ℤ◌, ◌-ℤ◌, List, [], ◌∷◌, ◌++◌, length, drop, map, slice_index, slice_index_or, is_some}
 use Rattle.std.specs.Int.{Width, w8, w32, w64, byte_len, from_le_bytes, int_rem_euclid}
 use Rattle.std.specs.List.{list_any, list_all}
 use Rattle.std.specs.Ordering.{int_eq}
@@ -28,8 +29,8 @@ use Rattle.amr_def.specs.Limits.{between}
 use Rattle.amr_def.specs.Domain.{Domain, domain, domain_box, in_domain, is_near}
 use Rattle.amr_def.specs.State.{Masses, mass_of, Level, State, level_at, is_covered, is_covered_by, children_mass}
 use Rattle.amr_def.specs.Ledger.{total_mass}
-use Rattle.amr_def.specs.Facts.{growth, row_at}
-use Rattle.amr_payload.specs.Payload.{level_cells}
+use Rattle.amr_def.specs.Facts.{growth, no_row, row_at}
+use Rattle.amr_payload.specs.Payload.{Form, whole, changed, Basis, alone, have_masses, cell_rows, level_cells}
 
 -- ---- reading
 
@@ -57,6 +58,11 @@ tested false place a left = bad place
 abbrev pub read_also : {A : Type 0} → A → Reading (List A) → Reading (List A)
 read_also a (bad place) = bad place
 read_also a (read others left) = read (a ∷ others) left
+
+-- some values and then others
+abbrev pub read_joined : {A : Type 0} → List A → Reading (List A) → Reading (List A)
+read_joined some (bad place) = bad place
+read_joined some (read others left) = read (some ++ others) left
 
 -- what is left after n bytes
 abbrev pub after : ℕ → Left → Left
@@ -93,6 +99,11 @@ read_rows_after (suc n) before r = then_read (read_row_after before r) (λ v a. 
 -- a first row and n more
 unfoldable pub read_rows : ℕ → Left → Reading (List Row)
 read_rows n r = then_read (read_first_row r) (λ v a. read_also v (read_rows_after n v a))
+
+-- the rows that stand already, and those after them up to that of step n
+abbrev pub read_ledger : List Row → ℕ → Left → Reading (List Row)
+read_ledger [] n r = read_rows n r
+read_ledger (v ∷ vs) n r = read_joined (v ∷ vs) (read_rows_after (n - length vs) (slice_index_or (v ∷ vs) (length vs) no_row) r)
 
 -- ---- a box and its masses
 
@@ -140,16 +151,34 @@ abbrev pub read_masses : Width → Problem → ℕ → ℕ → ℕ → Left → 
 read_masses w p n l zero r = read [] r
 read_masses w p n l (suc k) r = then_read (read_mass w p n l r) (λ m a. read_also m (read_masses w p n l k a))
 
-unfoldable pub read_grid : Width → Problem → ℕ → ℕ → List Extent → Left → Reading Grid
-read_grid w p n l earlier r =
+-- the masses of a row of cells behind its flag: those of the older level, all of which it has, or others, which are read
+abbrev pub read_flagged : Masses → Problem → ℕ → ℕ → List Cell → ℕ → ℕ → Left → Reading (List ℕ)
+read_flagged old p n l cs place zero r = tested (list_all (λ c. is_some (old c)) cs) place (map (mass_of old) cs) r
+read_flagged old p n l cs place (suc zero) r = then_read (read_masses w32 p n l (length cs) r) (λ ms a. tested (not (have_masses old cs ms)) place ms a)
+read_flagged old p n l cs place (suc (suc flag)) r = bad place
+
+unfoldable pub read_changed : Masses → Problem → ℕ → ℕ → List Cell → Left → Reading (List ℕ)
+read_changed old p n l cs r = then_read (read_number w8 r) (λ flag a. read_flagged old p n l cs r.place flag a)
+
+abbrev pub read_all_changed : Masses → Problem → ℕ → ℕ → List (List Cell) → Left → Reading (List ℕ)
+read_all_changed old p n l [] r = read [] r
+read_all_changed old p n l (cs ∷ css) r = then_read (read_changed old p n l cs r) (λ ms a. read_joined ms (read_all_changed old p n l css a))
+
+-- the masses of a box
+abbrev pub read_box_masses : Form → Problem → ℕ → ℕ → Extent → Left → Reading (List ℕ)
+read_box_masses (whole w) p n l b r = read_masses w p n l (width b * height b) r
+read_box_masses (changed old) p n l b r = read_all_changed old p n l (cell_rows b) r
+
+unfoldable pub read_grid : Form → Problem → ℕ → ℕ → List Extent → Left → Reading Grid
+read_grid f p n l earlier r =
     then_read (read_box r) (λ b a. then_read (tested (is_box_of p l earlier b) r.place b a)
-    (λ b a. then_read (read_masses w p n l (width b * height b) a) (λ ms c.
+    (λ b a. then_read (read_box_masses f p n l b a) (λ ms c.
     read (record { box = b; masses = ms }) c)))
 
 -- k boxes with their masses
-abbrev pub read_grids : Width → Problem → ℕ → ℕ → ℕ → List Extent → Left → Reading (List Grid)
-read_grids w p n l zero earlier r = read [] r
-read_grids w p n l (suc k) earlier r = then_read (read_grid w p n l earlier r) (λ g a. read_also g (read_grids w p n l k (g.box ∷ earlier) a))
+abbrev pub read_grids : Form → Problem → ℕ → ℕ → ℕ → List Extent → Left → Reading (List Grid)
+read_grids f p n l zero earlier r = read [] r
+read_grids f p n l (suc k) earlier r = then_read (read_grid f p n l earlier r) (λ g a. read_also g (read_grids f p n l k (g.box ∷ earlier) a))
 
 -- ---- levels
 
@@ -170,9 +199,9 @@ abbrev pub is_box_count : Problem → ℕ → ℕ → Bool
 is_box_count p zero k = k == 1
 is_box_count p (suc l) k = between 1 (level_cells p l) k
 
-unfoldable pub read_level : Width → Problem → ℕ → ℕ → Left → Reading Level
-read_level w p n l r =
-    then_read (read_number w32 r) (λ k a. then_read (tested (is_box_count p l k) r.place k a) (λ k a. then_read (read_grids w p n l k [] a) (λ gs b.
+unfoldable pub read_level : Form → Problem → ℕ → ℕ → Left → Reading Level
+read_level f p n l r =
+    then_read (read_number w32 r) (λ k a. then_read (tested (is_box_count p l k) r.place k a) (λ k a. then_read (read_grids f p n l k [] a) (λ gs b.
     read (level_of gs) b)))
 
 -- each cell of the domain at most one away from a parent of a finer cell is in a box of the level
@@ -184,36 +213,38 @@ abbrev pub is_in_sync : Domain → Masses → Masses → Bool
 is_in_sync d coarse fine = list_all (λ c. not (is_covered fine c) || (mass_of coarse c == children_mass fine c)) (cells_of (domain_box d))
 
 -- the level over level l, whose masses and boxes are those of `below`
-unfoldable pub read_finer : Width → Problem → ℕ → ℕ → Level → Left → Reading Level
-read_finer w p n l below r =
-    then_read (read_level w p n (suc l) r) (λ k a.
+unfoldable pub read_finer : Form → Problem → ℕ → ℕ → Level → Left → Reading Level
+read_finer f p n l below r =
+    then_read (read_level f p n (suc l) r) (λ k a.
     tested (surrounds (domain p l) below.boxes k.boxes && is_in_sync (domain p l) below.masses k.masses) r.place k a)
 
-abbrev pub read_all_finer : Width → Problem → ℕ → ℕ → ℕ → Level → Left → Reading (List Level)
-read_all_finer w p n zero l below r = read [] r
-read_all_finer w p n (suc t) l below r = then_read (read_finer w p n l below r) (λ k a. read_also k (read_all_finer w p n t (suc l) k a))
+abbrev pub read_all_finer : (ℕ → Form) → Problem → ℕ → ℕ → ℕ → Level → Left → Reading (List Level)
+read_all_finer fs p n zero l below r = read [] r
+read_all_finer fs p n (suc t) l below r = then_read (read_finer (fs (suc l)) p n l below r) (λ k a. read_also k (read_all_finer fs p n t (suc l) k a))
 
-unfoldable pub read_levels : Width → Problem → ℕ → Left → Reading (List Level)
-read_levels w p n r =
+unfoldable pub read_levels : (ℕ → Form) → Problem → ℕ → Left → Reading (List Level)
+read_levels fs p n r =
     then_read (read_number w8 r) (λ t a. then_read (tested (between 1 (p.max_level + 1) t) r.place t a) (λ t a.
-    then_read (read_level w p n 0 a) (λ k b. read_also k (read_all_finer w p n (t - 1) 0 k b))))
+    then_read (read_level (fs 0) p n 0 a) (λ k b. read_also k (read_all_finer fs p n (t - 1) 0 k b))))
 
--- ---- the whole payload
-
-abbrev pub row_place : ℕ → ℕ
-row_place k = 4 + 24 * k
+-- ---- the whole
 
 -- the last row's mass is that of level 0
 abbrev pub is_in_balance : Problem → State → Bool
 is_in_balance p s = (row_at s s.step).mass == total_mass p (level_at s 0).masses
 
-unfoldable pub read_step : Problem → Left → Reading ℕ
-read_step p r = then_read (read_number w32 r) (λ n a. tested (nat_le n p.steps) r.place n a)
+-- a step of the problem, after the k rows of the ledger that stand already
+unfoldable pub read_step : Problem → ℕ → Left → Reading ℕ
+read_step p k r = then_read (read_number w32 r) (λ n a. tested (between k p.steps n) r.place n a)
 
-unfoldable pub read_state : Width → Problem → Left → Reading State
-read_state w p r =
-    then_read (read_step p r) (λ n a. then_read (read_rows n a) (λ rows b. then_read (read_levels w p n b) (λ levels c.
-    tested (is_in_balance p (record { step = n; rows = rows; levels = levels })) (row_place n) (record { step = n; rows = rows; levels = levels }) c)))
+-- the place of the row of the ledger after step n, where k rows stand already and the others begin at `place`
+abbrev pub row_place : ℕ → ℕ → ℕ → ℕ
+row_place place k n = place + 24 * (n - k)
+
+unfoldable pub read_state : Basis → Problem → Left → Reading State
+read_state on p r =
+    then_read (read_step p (length on.rows) r) (λ n a. then_read (read_ledger on.rows n a) (λ rows b. then_read (read_levels on.forms p n b) (λ levels c.
+    tested (is_in_balance p (record { step = n; rows = rows; levels = levels })) (row_place a.place (length on.rows) n) (record { step = n; rows = rows; levels = levels }) c)))
 
 -- nothing is left
 abbrev pub nothing_follows : {A : Type 0} → Reading A → Result A ℕ
@@ -222,4 +253,4 @@ nothing_follows (read a left) = if length left.bytes == 0 then Ok a else Err lef
 
 -- the state that a payload is of, or the place of the first test that fails
 unfoldable pub decoded : Width → Problem → List ℕ → Result State ℕ
-decoded w p bytes = nothing_follows (read_state w p (record { place = 0; bytes = bytes }))
+decoded w p bytes = nothing_follows (read_state (alone w) p (record { place = 0; bytes = bytes }))

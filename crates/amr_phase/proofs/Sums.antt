@@ -54,7 +54,3 @@ module _ {X : Type 0} where
   same_default [] i d e lt = absurd (omega arith)
   same_default (x ∷ xs) zero d e lt = refl
   same_default (x ∷ xs) (suc i) d e lt = same_default xs i d e (omega arith)
-
--- a sum counted up to m grows by n
-pub capped : (a n m : ℕ) → min (min a m + n) m ≡ min (a + n) m
-capped a n m = omega arith

@@ -9,7 +9,7 @@ use Rattle.amr_plot.specs.BoxParts.{part_text}
 use Rattle.amr_plot.specs.declared.parts.Part.{Part}
 use Rattle.amr_plot.specs.declared.parts.Part.TheVariants.{Line, Rows}
 use Rattle.amr_plot.proofs.Putting.{range_texts, texts_more, texts_of_range}
-use Rattle.amr_plot.proofs.Texts.{one_more}
+use Rattle.amr_plot.proofs.TextLaws.{one_more}
 
 abbrev pub no_part : Part
 no_part = Line no_box

@@ -4,5 +4,5 @@ mod Fragments
 mod Lengths
 mod LevelBoxes
 mod Putting
-mod Texts
+mod TextLaws
 mod Words

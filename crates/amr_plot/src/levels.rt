@@ -11,7 +11,7 @@ ghost use Rattle.amr_plot.specs.Puts.{Puts};
 
 use crate::boxes::put_boxes;
 use crate::lines::{level_row, put_line};
-use crate::sharing::Sharing;
+use crate::texts::TextMaker;
 use amr_def::Problem;
 use amr_io::{Sink, Text, WriteFault, write_whole};
 use amr_patch::Level;
@@ -35,57 +35,57 @@ fn put_texts<O: Sink>(texts: &[Vec<u8>], text: &mut Text, sink: &mut O) -> Resul
 }
 
 /// All boxes of level `l`.
-fn put_level_boxes<S: Sharing, O: Sink>(
-    sharing: &S,
+fn put_level_boxes<S: TextMaker, O: Sink>(
+    maker: &S,
     p: &Problem,
     l: u32,
     level: &Level,
     text: &mut Text,
     sink: &mut O,
 ) -> Result<(), WriteFault>
-    requires shared { S.may_share sharing.now }
+    requires shared { S.may_share maker.now }
     requires fine { l ≤ 4 }
     requires level { IsLevel p.now l (level_of level.now) }
     ensures { Puts O.holds O.faults sink.old sink.new text.old text.new (flat_map (box_text (level_of level.now).masses) (level_of level.now).boxes) result }
 {
-    match sharing.made_before(p, l, level) {
+    match maker.made_before(p, l, level) {
         Some(texts) => put_texts(&texts, text, sink),
         None => put_boxes(p, l, level, level.boxes(), text, sink),
     }
 }
 
-fn put_level<S: Sharing, O: Sink>(
-    sharing: &S,
+fn put_level<S: TextMaker, O: Sink>(
+    maker: &S,
     p: &Problem,
     l: u32,
     level: &Level,
     text: &mut Text,
     sink: &mut O,
 ) -> Result<(), WriteFault>
-    requires shared { S.may_share sharing.now }
+    requires shared { S.may_share maker.now }
     requires fine { l ≤ 4 }
     requires level { IsLevel p.now l (level_of level.now) }
     ensures { Puts O.holds O.faults sink.old sink.new text.old text.new (level_text l (level_of level.now)) result }
 {
     put_line(&level_row(l, level.boxes().len()), text, sink)?;
-    put_level_boxes(sharing, p, l, level, text, sink)
+    put_level_boxes(maker, p, l, level, text, sink)
 }
 
 /// The levels, from level 0 on.
-pub(crate) fn put_levels<S: Sharing, O: Sink>(
-    sharing: &S,
+pub(crate) fn put_levels<S: TextMaker, O: Sink>(
+    maker: &S,
     p: &Problem,
     levels: &[Level],
     text: &mut Text,
     sink: &mut O,
 ) -> Result<(), WriteFault>
-    requires shared { S.may_share sharing.now }
+    requires shared { S.may_share maker.now }
     requires few { length levels.now ≤ 5 }
     requires levels { (l : ℕ) → l < length levels.now → IsLevel p.now l (slice_index_or (map level_of levels.now) l no_level) }
     ensures { Puts O.holds O.faults sink.old sink.new text.old text.new (numbered level_text 0 (map level_of levels.now)) result }
 {
     for (l, level) in levels.iter().enumerate() {
-        put_level(sharing, p, l as u32, level, text, sink)?;
+        put_level(maker, p, l as u32, level, text, sink)?;
     }
     Ok(())
 }

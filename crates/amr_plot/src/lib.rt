@@ -10,16 +10,16 @@
 ghost use Rattle.amr_plot.specs.Laws.{PlotsAreShort};
 
 mod boxes;
-mod counting;
+mod length;
 mod levels;
 mod lines;
 mod mesh;
 mod parts;
 mod rows;
 mod runs;
-mod sharing;
+mod texts;
 
-pub use counting::plot_len;
+pub use length::plot_len;
 pub use mesh::{plot, plot_in_threads};
 
 /// The plot of a sound state has fewer than 2^64 bytes.

@@ -12,7 +12,7 @@ ghost use Rattle.amr_plot.specs.Parts.{after_head, after_ledger};
 
 use crate::levels::put_levels;
 use crate::lines::{head, ledger_row, put_line};
-use crate::sharing::{Alone, InThreads, Sharing};
+use crate::texts::{Putter, TextMaker, TextThreads};
 use amr_def::Problem;
 use amr_io::{Sink, Text, WriteFault};
 use amr_patch::Mesh;
@@ -37,63 +37,63 @@ fn put_ledger<O: Sink>(
 }
 
 /// The levels and the end.
-fn put_tables<S: Sharing, O: Sink>(
-    sharing: &S,
+fn put_tables<S: TextMaker, O: Sink>(
+    maker: &S,
     p: &Problem,
     mesh: &Mesh,
     text: &mut Text,
     sink: &mut O,
 ) -> Result<(), WriteFault>
-    requires shared { S.may_share sharing.now }
+    requires shared { S.may_share maker.now }
     requires whole { is_spent mesh.now ≡ false }
     requires sound { IsSound p.now (state_of mesh.now) }
     ensures { Puts O.holds O.faults sink.old sink.new text.old text.new (after_ledger (state_of mesh.now)) result }
 {
-    put_levels(sharing, p, mesh.levels(), text, sink)?;
+    put_levels(maker, p, mesh.levels(), text, sink)?;
     text.put_str(sink, "end\n")
 }
 
 /// What follows the head.
-fn put_body<S: Sharing, O: Sink>(
-    sharing: &S,
+fn put_body<S: TextMaker, O: Sink>(
+    maker: &S,
     p: &Problem,
     mesh: &Mesh,
     text: &mut Text,
     sink: &mut O,
 ) -> Result<(), WriteFault>
-    requires shared { S.may_share sharing.now }
+    requires shared { S.may_share maker.now }
     requires whole { is_spent mesh.now ≡ false }
     requires sound { IsSound p.now (state_of mesh.now) }
     ensures { Puts O.holds O.faults sink.old sink.new text.old text.new (after_head (state_of mesh.now)) result }
 {
     put_ledger(mesh, mesh.step() + 1, text, sink)?;
-    put_tables(sharing, p, mesh, text, sink)
+    put_tables(maker, p, mesh, text, sink)
 }
 
-fn put_plot<S: Sharing, O: Sink>(
-    sharing: &S,
+fn put_plot<S: TextMaker, O: Sink>(
+    maker: &S,
     p: &Problem,
     mesh: &Mesh,
     text: &mut Text,
     sink: &mut O,
 ) -> Result<(), WriteFault>
-    requires shared { S.may_share sharing.now }
+    requires shared { S.may_share maker.now }
     requires whole { is_spent mesh.now ≡ false }
     requires sound { IsSound p.now (state_of mesh.now) }
     ensures { Puts O.holds O.faults sink.old sink.new text.old text.new (plot p.now (state_of mesh.now)) result }
 {
     put_line(&head(p, mesh.step()), text, sink)?;
-    put_body(sharing, p, mesh, text, sink)
+    put_body(maker, p, mesh, text, sink)
 }
 
-/// Writes the plot, with the texts of boxes made by who shares them out.
-fn plot_by<S: Sharing, O: Sink>(
-    sharing: &S,
+/// Writes the plot, with the texts of boxes made by this maker.
+fn plot_by<S: TextMaker, O: Sink>(
+    maker: &S,
     p: &Problem,
     mesh: &Mesh,
     sink: &mut O,
 ) -> Result<(), WriteFault>
-    requires shared { S.may_share sharing.now }
+    requires shared { S.may_share maker.now }
     requires whole { is_spent mesh.now ≡ false }
     requires sound { IsSound p.now (state_of mesh.now) }
     ensures whole { OnOk result (Grows O.holds sink.old sink.new (plot p.now (state_of mesh.now))) }
@@ -103,7 +103,7 @@ fn plot_by<S: Sharing, O: Sink>(
     ensures cause { HasCause (O.faults sink.old) (O.faults sink.new) result }
 {
     let mut text = Text::make();
-    put_plot(sharing, p, mesh, &mut text, sink)?;
+    put_plot(maker, p, mesh, &mut text, sink)?;
     text.flush(sink)?;
     Ok(())
 }
@@ -120,7 +120,7 @@ pub fn plot<O: Sink>(p: &Problem, mesh: &Mesh, sink: &mut O) -> Result<(), Write
     ensures no_fault { OnOk result (O.faults sink.new ≡ O.faults sink.old) }
     ensures cause { HasCause (O.faults sink.old) (O.faults sink.new) result }
 {
-    plot_by(&Alone, p, mesh, sink)
+    plot_by(&Putter, p, mesh, sink)
 }
 
 /// Writes the same as `plot`. The texts of the boxes of a large level are made in memory by at most `threads` threads, each a run
@@ -142,10 +142,10 @@ pub fn plot_in_threads<R: Threads + Sync, O: Sink>(
     ensures no_fault { OnOk result (O.faults sink.new ≡ O.faults sink.old) }
     ensures cause { HasCause (O.faults sink.old) (O.faults sink.new) result }
 {
-    let sharing = InThreads {
+    let maker = TextThreads {
         runtime: rt,
         threads,
         alloc,
     };
-    plot_by(&sharing, p, mesh, sink)
+    plot_by(&maker, p, mesh, sink)
 }

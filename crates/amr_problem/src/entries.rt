@@ -9,7 +9,7 @@ ghost use Rattle.amr_problem.specs.Entries.{basic_keys, refining_keys, overlay_k
 use crate::document::number_at;
 use crate::fault::{JudgeFault, ProblemFault};
 use crate::key::Key;
-use crate::reading::{integers_at, numbers_at, rows_at, shear_at, text_at};
+use crate::kinds::{integers_at, numbers_at, rows_at, shear_at, text_at};
 use std::alloc::Global;
 use toml::Table;
 

@@ -14,12 +14,12 @@ mod fault;
 mod judgement;
 mod key;
 mod key_text;
+mod kinds;
 mod laws;
 mod limits;
 mod problem;
 mod range;
 mod ranges;
-mod reading;
 mod values;
 
 pub use fault::{JudgeFault, ProblemFault};

@@ -19,7 +19,7 @@ use Rattle.amr_regrid.specs.Blocks.{blocks_of}
 use Rattle.amr_regrid.proofs.BlockPlaces.{block_inside}
 use Rattle.amr_regrid.proofs.CellBlocks.{any_box, filter_box, has_cell_1}
 
--- ---- the level below
+-- ---- the next coarser level
 
 half_many : (n l : ℕ) → n * 2 ^ (l + 1) / 2 ≡ n * 2 ^ l
 half_many n l =

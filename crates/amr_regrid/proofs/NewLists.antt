@@ -17,7 +17,7 @@ use Rattle.amr_patch.specs.declared.levels.Level.{Level}
 use Rattle.amr_regrid.specs.Outlines.{outlines, with_levels}
 use Rattle.amr_regrid.proofs.OutlineLaws.{same_levels}
 
--- the parents of the cells of the first boxes lie in the level below
+-- the parents of the cells of the first boxes lie in the next coarser level
 pub finer_inside : (p : Problem) (tagged : ℕ → Cell → Bool) (n l : ℕ) (bs : List Extent) → bs ≡ first_boxes (new_boxes p tagged n (l + 1)) → (c : Cell) → in_boxes bs c ≡ true → in_domain (domain p (l + 1)) (parent c) ≡ true
 unfolding new_boxes
 finer_inside p tagged zero l bs is c h = absurd (let e : in_boxes [] c ≡ true = sym (ap (λ (xs : List Extent). in_boxes xs c) is) ∙ h in cc)

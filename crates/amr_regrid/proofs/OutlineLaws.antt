@@ -35,7 +35,7 @@ level_at_is [] l k h e = absurd (omega (arith, h))
 level_at_is (x ∷ xs) zero k h e = ap level_of (sym e)
 level_at_is (x ∷ xs) (suc l) k h e = level_at_is xs l k (omega (arith, h)) e
 
--- the masses of the level below
+-- the masses of the next coarser level
 last_of : (ks : List Level) (l : ℕ) → suc l < length ks → old_masses (slice_get (take (suc l) ks) l) ≡ (slice_index_or (map level_of ks) l no_level).masses
 last_of [] l h = absurd (omega (arith, h))
 last_of (x ∷ xs) zero h = refl

@@ -6,7 +6,7 @@ use Rattle.amr_batch.specs.Answer.{JobReply, answer_text, job_reply}
 use Rattle.amr_batch.specs.Batch.{IsBatch, bytes_in}
 use Rattle.amr_batch.specs.Replies.{AreReplies, job_at, no_span}
 use Rattle.amr_batch.specs.declared.answer.Reply.{Reply}
-use Rattle.amr_batch.specs.declared.reading.Span.{Span}
+use Rattle.amr_batch.specs.declared.spans.Span.{Span}
 use Rattle.amr_batch.proofs.OneReading.{has_one_reading}
 use Rattle.amr_def.specs.declared.problem.Problem.{Problem}
 use Rattle.amr_def.specs.Plot.{plot}

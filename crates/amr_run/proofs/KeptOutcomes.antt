@@ -19,8 +19,8 @@ use Rattle.amr_checkpoint.specs.declared.faults.KeepFault.TheVariants as fault
 use Rattle.amr_checkpoint.specs.declared.faults.ResumeFault.{ResumeFault}
 use Rattle.amr_checkpoint.specs.declared.faults.ResumeFault.TheVariants as resuming
 use Rattle.amr_checkpoint.specs.declared.refusal.Refusal.{Refusal}
-use Rattle.amr_checkpoint.specs.declared.resuming.Resumed.{Resumed}
-use Rattle.amr_checkpoint.specs.declared.resuming.Resumed.TheVariants as resumed
+use Rattle.amr_checkpoint.specs.declared.resumption.Resumed.{Resumed}
+use Rattle.amr_checkpoint.specs.declared.resumption.Resumed.TheVariants as resumed
 use Rattle.amr_checkpoint.specs.Checkpoints.{CanGoOn, content_resumed}
 use Rattle.amr_checkpoint.specs.Contents.{Content, Holds, state_from}
 use Rattle.amr_checkpoint.specs.Kept.{ErrFailsBy, FailsBy, IsSaid, Keeps, KeptRun, SameUntil, made_of}
@@ -185,7 +185,7 @@ module _ {D : Type 0} (seen : D → Option (List ℕ)) (moment : D → ℕ) (lea
   pub stops_kept : {E : Type 0} (disk_faults : D → ℕ) (holds : E → List ℕ → Type 0) (err_faults : E → ℕ) (run : KeptRun) (r : Resumed) (d read later_d : D) (e later_e : E) (ended : Option KeepFault) (status : Status)
       → EndsRun ended status → OnlyReads seen moment leaves d read → Only (seen read) (leaves read (moment read)) → ((image : List ℕ) → seen d ≡ Some image → Holds image (content_resumed run.bytes run.problem r))
       → CanGoOn run.bytes run.problem run.target r
-      → (h : Keeps (outside_at seen moment leaves disk_faults holds err_faults read e) (outside_at seen moment leaves disk_faults holds err_faults later_d later_e) (made_of run (content_resumed run.bytes run.problem r)) ended)
+      → (h : Keeps run.deltas (outside_at seen moment leaves disk_faults holds err_faults read e) (outside_at seen moment leaves disk_faults holds err_faults later_d later_e) (made_of run (content_resumed run.bytes run.problem r)) ended)
       → StopsKept seen moment leaves d later_d status run h.said
   stops_kept disk_faults holds err_faults run r d read later_d e later_e ended status ends reads settled held can h image told =
       let found : Content = content_resumed run.bytes run.problem r in
@@ -205,19 +205,19 @@ module _ {D : Type 0} (seen : D → Option (List ℕ)) (moment : D → ℕ) (lea
           leave = through.leave;
           begun = through.begun;
           acknowledged = subst (IsSaid ended h.said) (sym through.made) h.says;
-          made = λ no. subst (ReadsWith (seen later_d) image) (sym through.made) (h.made no image (reads.same ∙ told));
+          made = λ no. subst (ReadsWith run.deltas (seen later_d) image) (sym through.made) (h.made no image (reads.same ∙ told));
         };
       }
 
   -- of the problem that the source gave
   pub stops_run : (d later_d : D) (was status : Status) (given bytes : List ℕ) (marked : Marks) (p : Problem) (target : ℕ) (said : List ℕ) → given ≡ bytes → target ≡ stop_of marked.to p → IsProblemOf bytes p
-      → StopsKept seen moment leaves d later_d was (record { bytes = given; problem = p; every = marked.every; target = target }) said → (EndsBefore was → EndsBefore status)
+      → StopsKept seen moment leaves d later_d was (record { bytes = given; problem = p; every = marked.every; target = target; deltas = marked.deltas }) said → (EndsBefore was → EndsBefore status)
       → ((ended : Option KeepFault) → EndsRun ended was → EndsRun ended status) → StopsRun seen moment leaves d later_d status marked bytes said
   stops_run d later_d was status given bytes marked p target said same stops accepted h before still image told = elim (h image told) [
     | inl reads ↦ inl (before reads.0, reads.1, reads.2)
     | inr through ↦ let first = disk_at seen moment leaves d in
         let last = disk_at seen moment leaves later_d in
-        let by : List ℕ → ℕ → KeptRun = λ b n. record { bytes = b; problem = p; every = marked.every; target = n } in
+        let by : List ℕ → ℕ → KeptRun = λ b n. record { bytes = b; problem = p; every = marked.every; target = n; deltas = marked.deltas } in
         inr record {
           problem = p;
           accepted = accepted;

@@ -189,12 +189,12 @@ batch_once : (bytes : List ℕ) (s : Status) → JudgesBatch bytes None → Judg
 batch_once bytes (status.BadBatch place) is malformed = is_one_or_the_other bytes is.0 place is.1 malformed
 batch_once bytes _ is malformed = malformed
 
-run_once : (to keep : Option ℕ) (bytes : List ℕ) (s : Status) → (run_meaning to keep).judges bytes None → (run_meaning to keep).judges bytes (Some s) → ⊥
-run_once to None bytes s none some = problem_once bytes s none some
-run_once to (Some every) bytes s none some = problem_once bytes s none some
+run_once : (to keep deltas : Option ℕ) (bytes : List ℕ) (s : Status) → (run_meaning to keep deltas).judges bytes None → (run_meaning to keep deltas).judges bytes (Some s) → ⊥
+run_once to None deltas bytes s none some = problem_once bytes s none some
+run_once to (Some every) deltas bytes s none some = problem_once bytes s none some
 
 judged_once : (command : Command) (bytes : List ℕ) (s : Status) → (meaning command).judges bytes None → (meaning command).judges bytes (Some s) → ⊥
-judged_once (Run options) bytes s none some = run_once options.to options.keep bytes s none some
+judged_once (Run options) bytes s none some = run_once options.to options.keep options.deltas bytes s none some
 judged_once Check bytes s none some = problem_once bytes s none some
 judged_once Show bytes s none some = some
 judged_once (Trial number size workers) bytes s none some = some

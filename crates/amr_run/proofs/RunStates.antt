@@ -97,34 +97,34 @@ module _ {D E : Type 0} (seen : D → Option (List ℕ)) (moment : D → ℕ) (l
   abbrev at : D → E → OutsideAt
   at d e = outside_at seen moment leaves disk_faults holds err_faults d e
 
-  pub keeps_back : (before : OutsideAt) (later_d back_d : D) (later_e back_e : E) (all : List Content) (ended : Option KeepFault) → back_d ≡ later_d → back_e ≡ later_e → Keeps before (at later_d later_e) all ended
-      → Keeps before (at back_d back_e) all ended
-  keeps_back before later_d back_d later_e back_e all ended disk err h =
-      subst (λ (x : D). Keeps before (at x back_e) all ended) (sym disk) (subst (λ (x : E). Keeps before (at later_d x) all ended) (sym err) h)
+  pub keeps_back : (deltas : Option ℕ) (before : OutsideAt) (later_d back_d : D) (later_e back_e : E) (all : List Content) (ended : Option KeepFault) → back_d ≡ later_d → back_e ≡ later_e → Keeps deltas before (at later_d later_e) all ended
+      → Keeps deltas before (at back_d back_e) all ended
+  keeps_back deltas before later_d back_d later_e back_e all ended disk err h =
+      subst (λ (x : D). Keeps deltas before (at x back_e) all ended) (sym disk) (subst (λ (x : E). Keeps deltas before (at later_d x) all ended) (sym err) h)
 
 module _ (before after : OutsideAt) (run : KeptRun) where
   -- a fault after the first of these states
-  keeps_first : (first rest all : List State) (reason : KeepFault) → first ++ rest ≡ all → Keeps before after (checkpoints_of run first) (Some reason) → Keeps before after (checkpoints_of run all) (Some reason)
+  keeps_first : (first rest all : List State) (reason : KeepFault) → first ++ rest ≡ all → Keeps run.deltas before after (checkpoints_of run first) (Some reason) → Keeps run.deltas before after (checkpoints_of run all) (Some reason)
   keeps_first first rest all reason split h =
-      subst (λ (ss : List State). Keeps before after (checkpoints_of run ss) (Some reason)) split
-      (subst (λ (cs : List Content). Keeps before after cs (Some reason)) (sym (checkpoints_on run first rest)) (keeps_longer before after (checkpoints_of run first) (checkpoints_of run rest) reason h))
+      subst (λ (ss : List State). Keeps run.deltas before after (checkpoints_of run ss) (Some reason)) split
+      (subst (λ (cs : List Content). Keeps run.deltas before after cs (Some reason)) (sym (checkpoints_on run first rest)) (keeps_longer run.deltas before after (checkpoints_of run first) (checkpoints_of run rest) reason h))
 
   -- a fault after the first n states of a run
-  pub keeps_part : (s : State) (n : ℕ) (reason : KeepFault) → s.step + n ≤ run.target → Keeps before after (checkpoints_of run (states_after run.problem s n)) (Some reason)
-      → Keeps before after (checkpoints_of run (states_after run.problem s (run.target - s.step))) (Some reason)
+  pub keeps_part : (s : State) (n : ℕ) (reason : KeepFault) → s.step + n ≤ run.target → Keeps run.deltas before after (checkpoints_of run (states_after run.problem s n)) (Some reason)
+      → Keeps run.deltas before after (checkpoints_of run (states_after run.problem s (run.target - s.step))) (Some reason)
   keeps_part s n reason within h =
       let all = states_split run.problem s n (run.target - s.step) (omega arith) in
       keeps_first (states_after run.problem s n) all.0 (states_after run.problem s (run.target - s.step)) reason all.1 h
 
   -- and out of memory
-  pub keeps_no_more : (s : State) (n : ℕ) → s.step + n ≤ run.target → Keeps before after (checkpoints_of run (states_after run.problem s n)) None
-      → Keeps before after (checkpoints_of run (states_after run.problem s (run.target - s.step))) (Some fault.NoMemory)
-  keeps_no_more s n within h = keeps_part s n fault.NoMemory within (keeps_ended before after (checkpoints_of run (states_after run.problem s n)) h)
+  pub keeps_no_more : (s : State) (n : ℕ) → s.step + n ≤ run.target → Keeps run.deltas before after (checkpoints_of run (states_after run.problem s n)) None
+      → Keeps run.deltas before after (checkpoints_of run (states_after run.problem s (run.target - s.step))) (Some fault.NoMemory)
+  keeps_no_more s n within h = keeps_part s n fault.NoMemory within (keeps_ended run.deltas before after (checkpoints_of run (states_after run.problem s n)) h)
 
   -- by the bytes that a store has
-  pub keeps_of : (other : List ℕ) (states : List State) (ended : Option KeepFault) → other ≡ run.bytes → Keeps before after (checkpoints_of (record run { bytes = other }) states) ended
-      → Keeps before after (checkpoints_of run states) ended
-  keeps_of other states ended same h = subst (λ (b : List ℕ). Keeps before after (checkpoints_of (record run { bytes = b }) states) ended) same h
+  pub keeps_of : (other : List ℕ) (states : List State) (ended : Option KeepFault) → other ≡ run.bytes → Keeps run.deltas before after (checkpoints_of (record run { bytes = other }) states) ended
+      → Keeps run.deltas before after (checkpoints_of run states) ended
+  keeps_of other states ended same h = subst (λ (b : List ℕ). Keeps run.deltas before after (checkpoints_of (record run { bytes = b }) states) ended) same h
 
   -- the start and all states after it
   start_first : (s : State) → s ≡ start run.problem → s ∷ states_after run.problem s (run.target - s.step) ≡ all_states run.problem run.target
@@ -134,13 +134,13 @@ module _ (before after : OutsideAt) (run : KeptRun) where
       ap (λ (t : State). t ∷ states_after p t (run.target - t.step)) is ∙ ap (λ n. start p ∷ states_after p (start p) n) none
 
   -- a fault at the start
-  pub keeps_start : (s : State) (reason : KeepFault) → s ≡ start run.problem → Keeps before after (checkpoints_of run (s ∷ [])) (Some reason)
-      → Keeps before after (checkpoints_of run (all_states run.problem run.target)) (Some reason)
+  pub keeps_start : (s : State) (reason : KeepFault) → s ≡ start run.problem → Keeps run.deltas before after (checkpoints_of run (s ∷ [])) (Some reason)
+      → Keeps run.deltas before after (checkpoints_of run (all_states run.problem run.target)) (Some reason)
   keeps_start s reason is h = keeps_first (s ∷ []) (states_after run.problem s (run.target - s.step)) (all_states run.problem run.target) reason (start_first s is) h
 
-  pub keeps_new : (middle : OutsideAt) (s : State) (ended : Option KeepFault) → s ≡ start run.problem → Keeps before middle (checkpoints_of run (s ∷ [])) None
-      → Keeps middle after (checkpoints_of run (states_after run.problem s (run.target - s.step))) ended → Keeps before after (checkpoints_of run (all_states run.problem run.target)) ended
+  pub keeps_new : (middle : OutsideAt) (s : State) (ended : Option KeepFault) → s ≡ start run.problem → Keeps run.deltas before middle (checkpoints_of run (s ∷ [])) None
+      → Keeps run.deltas middle after (checkpoints_of run (states_after run.problem s (run.target - s.step))) ended → Keeps run.deltas before after (checkpoints_of run (all_states run.problem run.target)) ended
   keeps_new middle s ended is h k =
       let rest : List State = states_after run.problem s (run.target - s.step) in
-      subst (λ (ss : List State). Keeps before after (checkpoints_of run ss) ended) (start_first s is)
-      (subst (λ (cs : List Content). Keeps before after cs ended) (sym (checkpoints_on run (s ∷ []) rest)) (keeps_on before middle after (checkpoints_of run (s ∷ [])) (checkpoints_of run rest) ended h k))
+      subst (λ (ss : List State). Keeps run.deltas before after (checkpoints_of run ss) ended) (start_first s is)
+      (subst (λ (cs : List Content). Keeps run.deltas before after cs ended) (sym (checkpoints_on run (s ∷ []) rest)) (keeps_on run.deltas before middle after (checkpoints_of run (s ∷ [])) (checkpoints_of run rest) ended h k))

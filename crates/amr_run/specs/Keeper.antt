@@ -1,23 +1,21 @@
 -- What a keeper of checkpoints is before it is called. (profile)
-use Rattle.std.specs.Prelude.{ℕ, ◌≡◌, ◌+◌, ◌<◌, List, Option, Some, IfSome}
+use Rattle.std.specs.Prelude.{ℕ, ◌≡◌, ◌<◌, List, Option, Some, IfSome}
 use Rattle.amr_def.specs.declared.problem.Problem.{Problem}
 use Rattle.amr_def.specs.Facts.{IsSound}
 use Rattle.amr_def.specs.State.{State}
-use Rattle.amr_checkpoint.specs.Checkpoints.{IsStoreFor}
-use Rattle.amr_store.specs.declared.store.Store.{Store}
-use Rattle.amr_store.specs.Stands.{IsStoreReady, last_in, problem_in}
+use Rattle.amr_checkpoint.specs.declared.checkpoint.KeptStore.{KeptStore}
+use Rattle.amr_checkpoint.specs.Checkpoints.{MayPut}
+use Rattle.amr_store.specs.Stands.{problem_in}
 
 -- it has a store that a state of the run may be put into
 pub record MayKeep {D : Type 0} (seen : D → Option (List ℕ)) (moment : D → ℕ) (leaves : D → ℕ → List ℕ → Type 0) (p : Problem) (every : ℕ)
-    (kept : Option Store) (disk : D) (s : State) : Type 0 where
+    (kept : Option KeptStore) (disk : D) (s : State) : Type 0 where
   pub sound : IsSound p s
   pub some : 0 < every
-  pub store : Store
+  pub store : KeptStore
   pub is : kept ≡ Some store
-  pub of_problem : IsStoreFor p store
-  pub above : IfSome (last_in store) (λ last. last < s.step + 1)
-  pub ready : IsStoreReady seen moment leaves store disk
+  pub may : MayPut seen moment leaves p store s disk
 
 -- and that store is of these bytes
-abbrev pub HasProblem : Option Store → List ℕ → Type 0
-HasProblem kept bytes = IfSome kept (λ store. problem_in store ≡ bytes)
+abbrev pub HasProblem : Option KeptStore → List ℕ → Type 0
+HasProblem kept bytes = IfSome kept (λ kept. problem_in kept.store ≡ bytes)

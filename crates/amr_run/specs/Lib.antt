@@ -8,4 +8,5 @@ pub mod Outcome
 pub mod Refusals
 pub mod Keeper
 pub mod Kept
+pub mod Faults
 pub mod Served

@@ -128,7 +128,7 @@ pub record RunsThrough (before after : DiskAt) (status : Status) (run : KeptRun)
   pub on : GoesOn run.bytes run.target opened.content
   pub ended : Option KeepFault
   pub ends : EndsRun ended status
-  pub history : History after opened image (made_of run opened.content) said ended
+  pub history : History run.deltas after opened image (made_of run opened.content) said ended
 
 -- Where the disk tells what it reads, it was only read and nothing was said of checkpoints, or a run went on from it.
 abbrev pub StopsKept : {D : Type 0} → (D → Option (List ℕ)) → (D → ℕ) → (D → ℕ → List ℕ → Type 0) → D → D → Status → KeptRun → List ℕ → Type 0
@@ -142,7 +142,7 @@ pub record RunsThroughTo (before after : DiskAt) (status : Status) (marks : Mark
   pub problem : Problem
   pub accepted : IsProblemOf bytes problem
   pub through : RunsThrough before after status
-      (record { bytes = bytes; problem = problem; every = marks.every; target = stop_of marks.to problem }) image said
+      (record { bytes = bytes; problem = problem; every = marks.every; target = stop_of marks.to problem; deltas = marks.deltas }) image said
 
 abbrev pub StopsRun : {D : Type 0} → (D → Option (List ℕ)) → (D → ℕ) → (D → ℕ → List ℕ → Type 0) → D → D → Status → Marks → List ℕ → List ℕ → Type 0
 StopsRun seen moment leaves disk later_disk status marks bytes said =

@@ -5,8 +5,8 @@ use Rattle.std.specs.Io.KnownBytes.{Consumes}
 use Rattle.amr_batch.specs.Batch.{IsBatch, IsSpanOf, bytes_in}
 use Rattle.amr_problem.specs.Judgement.{IsProblemOf}
 use Rattle.amr_run.specs.Table.{JudgesBatch, JudgesProblem}
-use Rattle.amr_run.specs.declared.reading.ReadBatch.{ReadBatch}
-use Rattle.amr_run.specs.declared.reading.ReadProblem.{ReadProblem}
+use Rattle.amr_run.specs.declared.source.ReadBatch.{ReadBatch}
+use Rattle.amr_run.specs.declared.source.ReadProblem.{ReadProblem}
 use Rattle.amr_run.specs.declared.status.Status.{Status}
 use Rattle.amr_run.specs.declared.status.Status.TheVariants as status
 

@@ -1,6 +1,6 @@
 -- The statuses by which a fault of a lower layer ends a call.
-use Rattle.amr_batch.specs.declared.reading.JobsFault.{JobsFault}
-use Rattle.amr_batch.specs.declared.reading.JobsFault.TheVariants as jobs
+use Rattle.amr_batch.specs.declared.spans.JobsFault.{JobsFault}
+use Rattle.amr_batch.specs.declared.spans.JobsFault.TheVariants as jobs
 use Rattle.amr_io.specs.declared.source.ReadAll.{ReadAll}
 use Rattle.amr_io.specs.declared.source.ReadAll.TheVariants as reading
 use Rattle.amr_problem.specs.declared.fault.JudgeFault.{JudgeFault}

@@ -26,7 +26,7 @@ pub record Meaning : Type 1 where
   pub opens : Type 0
   -- a run on these bytes is refused so by what is stored
   pub refuses : List ℕ → Content → Refusal → Type 0
-  -- it puts checkpoints there, at these marks; any other only reads its disk
+  -- it puts checkpoints there, at these marks, into a store with so many records where it makes one; any other only reads its disk
   pub keeps : Option Marks
   -- by the bytes of its source and by what its disk reads as: its answer on `out`, and its lines on `err`, one for each checkpoint
   pub answers : List ℕ → Option (List ℕ) → List ℕ → List ℕ → Type 0
@@ -127,13 +127,13 @@ batch_row = record {
 }
 
 -- by whether checkpoints are asked for
-abbrev pub run_meaning : Option ℕ → Option ℕ → Meaning
-run_meaning to None = run_row to
-run_meaning to (Some every) = kept_row record { to = to; every = every }
+abbrev pub run_meaning : Option ℕ → Option ℕ → Option ℕ → Meaning
+run_meaning to None deltas = run_row to
+run_meaning to (Some every) deltas = kept_row record { to = to; every = every; deltas = deltas }
 
 -- the table
 abbrev pub meaning : Command → Meaning
-meaning (Run options) = run_meaning options.to options.keep
+meaning (Run options) = run_meaning options.to options.keep options.deltas
 meaning Check = check_row
 meaning Show = show_row
 meaning (Trial number size workers) = trial_row number size

@@ -29,7 +29,7 @@ exit_status (status.BadBatch place) = 8
 exit_status status.NoMemory = 9
 
 abbrev pub usage_text : List ℕ
-usage_text = codes "usage: run [--workers W] [--to K] [--keep E] | check | show | trial NUMBER SIZE [--workers W] | batch [--workers W]"
+usage_text = codes "usage: run [--workers W] [--to K] [--keep E] [--deltas D] | check | show | trial NUMBER SIZE [--workers W] | batch [--workers W]"
 
 -- what stands before a number's digits
 abbrev pub sign_text : ℤ → List ℕ

@@ -14,9 +14,9 @@ ghost use Rattle.amr_run.specs.Table.{batch_row};
 ghost use Rattle.amr_run.specs.Texts.{message};
 
 use crate::Status;
-use crate::commands::{Workers, run_to};
+use crate::commands::{Workshop, run_to};
 use crate::message::tell;
-use crate::reading::read_batch;
+use crate::source::read_batch;
 use amr_batch::{Reply, Solve, put_answer, run_all};
 use amr_causes::NoMemory;
 use amr_def::Problem;
@@ -30,20 +30,20 @@ use std::thread::Threads;
 
 /// Solves a job by one worker, who calls the gate around each task.
 #[derive(Clone, Copy)]
-struct Alone<'a, R, G> {
+struct LoneWorker<'a, R, G> {
     runtime: &'a R,
     gate: &'a G,
     alloc: Global,
 }
 
-impl<R: Threads + Wait + Sync, G: Gate + Sync> Alone<'_, R, G> {
+impl<R: Threads + Wait + Sync, G: Gate + Sync> LoneWorker<'_, R, G> {
     /// The plot of a problem's run to its last step, in memory for just its bytes. Out of memory is the only refusal.
     fn plot_of(&self, problem: &Problem) -> Result<Vec<u8>, NoMemory>
         requires gate { (worker task : ℕ) → worker < 1 → G.admits self.now.gate.now worker task }
         ensures text { IfOk result (λ text. text.items ≡ plot problem.now (run problem.now problem.now.steps)) }
         ensures run { OnOk result (IsSoundRun problem.now problem.now.steps) }
     {
-        let workers = Workers {
+        let workers = Workshop {
             runtime: self.runtime,
             count: 1,
             gate: self.gate,
@@ -118,7 +118,7 @@ impl<F: Fn(&[u8]) -> Result<Reply, NoMemory> + Sync> Solve for By<'_, F> {
 /// The command `batch`: the reply of each job of the batch on the source, in order, or the status that refuses the batch. All jobs
 /// are done before the first byte is written.
 pub(crate) fn batch<R: Threads + Wait + Sync, S: Source, O: Sink, G: Gate + Sync>(
-    workers: &Workers<'_, R, G>,
+    workers: &Workshop<'_, R, G>,
     src: &mut S,
     out: &mut O,
 ) -> Result<(), Status>
@@ -136,7 +136,7 @@ pub(crate) fn batch<R: Threads + Wait + Sync, S: Source, O: Sink, G: Gate + Sync
     ensures no_write_fault { result ≢ Err Status.WriteFault → O.faults out.new ≡ O.faults out.old }
 {
     let given = read_batch(workers.alloc, src)?;
-    let alone = Alone {
+    let alone = LoneWorker {
         runtime: workers.runtime,
         gate: workers.gate,
         alloc: workers.alloc,

@@ -1,5 +1,5 @@
 //! The commands.
-ghost use Rattle.std.specs.Prelude.{◌≡◌, ◌≢◌, ◌<◌, ◌≤◌, ◌⊎◌, List, [], ℕ, Option, Err, false, IfErr, IfOk, OnOk, OnErr};
+ghost use Rattle.std.specs.Prelude.{◌≡◌, ◌≢◌, ◌<◌, ◌≤◌, List, [], ℕ, Option, Err, false, IfErr, IfOk, IfSome, OnOk, OnErr};
 ghost use Rattle.std.specs.Io.KnownBytes.{IsAtEnd};
 ghost use Rattle.amr_causes.specs.Causes.{HasCause, Rose};
 ghost use Rattle.amr_causes.specs.Bytes.{Grows, WereLeft};
@@ -11,14 +11,15 @@ ghost use Rattle.amr_patch.specs.Meshes.{is_spent, state_of};
 ghost use Rattle.amr_trial.specs.Trial.{IsSize};
 ghost use Rattle.amr_store.specs.Phases.{OnlyReads};
 ghost use Rattle.amr_run.specs.Answer.{IsSoundRun, stop_of};
+ghost use Rattle.amr_run.specs.Faults.{HasCauses, faults_at};
 ghost use Rattle.amr_run.specs.Outcome.{EndsSettled, RepliesBy, StopsRun, status_of};
 ghost use Rattle.amr_run.specs.Reading.{TakesAtMost};
 ghost use Rattle.amr_run.specs.Table.{check_row, kept_row, run_row, show_row, trial_row};
 
 use crate::Status;
-use crate::keeping::keep_run;
+use crate::checkpoints::keep_run;
 use crate::line::put_line;
-use crate::reading::read_problem;
+use crate::source::read_problem;
 use amr_advance::Crew;
 use amr_checkpoint::Keeping;
 use amr_def::Problem;
@@ -40,7 +41,7 @@ const TRIAL_STEPS: u32 = 16;
 /// Who makes the steps of a run, and with what memory: so many workers on threads of a runtime, each of whom calls a gate around
 /// each task.
 #[derive(Clone, Copy)]
-pub(crate) struct Workers<'a, R, G> {
+pub(crate) struct Workshop<'a, R, G> {
     pub runtime: &'a R,
     pub count: u32,
     pub gate: &'a G,
@@ -48,11 +49,13 @@ pub(crate) struct Workers<'a, R, G> {
 }
 
 /// Where a run puts its checkpoints: after each step whose number `every` divides, and at its last step. That is `to`, or the
-/// problem's last where none is asked for or that comes first.
+/// problem's last where none is asked for or that comes first. A store that it makes has `deltas` records behind each whole state, or
+/// whole states alone.
 #[derive(Clone, Copy)]
 pub(crate) struct Marks {
     pub to: Option<u32>,
     pub every: u32,
+    pub deltas: Option<u32>,
 }
 
 /// The step that a run stops at: one that is asked for, and at most the problem's last.
@@ -67,7 +70,7 @@ fn stop_of(problem: &Problem, to: Option<u32>) -> u32
 
 /// The state of a problem's run at step `target`. Out of memory is the only refusal.
 pub(crate) fn run_to<R: Threads + Wait + Sync, G: Gate + Sync>(
-    workers: &Workers<'_, R, G>,
+    workers: &Workshop<'_, R, G>,
     problem: &Problem,
     target: u32,
 ) -> Result<Mesh, Status>
@@ -101,7 +104,7 @@ pub(crate) fn run_to<R: Threads + Wait + Sync, G: Gate + Sync>(
 
 /// The command `run`: the plot of the run of the problem on the source, or the status that refuses it.
 pub(crate) fn run<R: Threads + Wait + Sync, S: Source, O: Sink, G: Gate + Sync>(
-    workers: &Workers<'_, R, G>,
+    workers: &Workshop<'_, R, G>,
     to: Option<u32>,
     src: &mut S,
     out: &mut O,
@@ -137,7 +140,7 @@ pub(crate) fn run<R: Threads + Wait + Sync, S: Source, O: Sink, G: Gate + Sync>(
 /// problem on the source, or the status that refuses it. Each checkpoint is acknowledged on `err` once it stands; the
 /// plot is written last.
 pub(crate) fn keep<R: Threads + Wait + Sync, S: Source, O: Sink, E: Sink, D: Disk, G: Gate + Sync>(
-    workers: &Workers<'_, R, G>,
+    workers: &Workshop<'_, R, G>,
     marks: Marks,
     src: &mut S,
     out: &mut O,
@@ -145,6 +148,7 @@ pub(crate) fn keep<R: Threads + Wait + Sync, S: Source, O: Sink, E: Sink, D: Dis
     disk: &mut D,
 ) -> Result<(), Status>
     requires some { 1 ≤ marks.every }
+    requires deltas { IfSome marks.deltas (λ d. (1 ≤ d) × (d ≤ 7)) }
     requires some_workers { 1 ≤ workers.now.count }
     requires few_workers { workers.now.count ≤ 64 }
     requires gate { (worker task : ℕ) → worker < workers.now.count → G.admits workers.now.gate.now worker task }
@@ -155,13 +159,8 @@ pub(crate) fn keep<R: Threads + Wait + Sync, S: Source, O: Sink, E: Sink, D: Dis
     ensures ended { OnOk result (IsAtEnd (S.left src.new)) }
     ensures taken { TakesAtMost 65537 (S.left src.old) (S.left src.new) }
     ensures refused { IfErr result (λ status. status ≢ Status.Done) }
-    ensures read_fault { result ≡ Err Status.ReadFault → Rose (S.faults src.old) (S.faults src.new) }
-    ensures no_read_fault { result ≢ Err Status.ReadFault → S.faults src.new ≡ S.faults src.old }
-    ensures disk_fault { result ≡ Err Status.DiskFault → Rose (D.faults disk.old) (D.faults disk.new) }
-    ensures no_disk_fault { result ≢ Err Status.DiskFault → D.faults disk.new ≡ D.faults disk.old }
-    ensures write_fault { result ≡ Err Status.WriteFault
-        → (Rose (O.faults out.old) (O.faults out.new) × (E.faults err.new ≡ E.faults err.old)) ⊎ Rose (E.faults err.old) (E.faults err.new) }
-    ensures no_write_fault { result ≢ Err Status.WriteFault → (O.faults out.new ≡ O.faults out.old) × (E.faults err.new ≡ E.faults err.old) }
+    ensures causes { let faults = faults_at S.faults O.faults E.faults D.faults in
+        HasCauses (status_of result) (faults src.old out.old err.old disk.old) (faults src.new out.new err.new disk.new) }
     ensures settled { EndsSettled D.seen D.moment D.leaves disk.old disk.new (status_of result) }
     ensures unwritten { (refusal : _) → result ≡ Err (Status.Store refusal) → OnlyReads D.seen D.moment D.leaves disk.old disk.new }
     ensures source_first { result ≡ Err Status.ReadFault → disk.new ≡ disk.old }
@@ -173,6 +172,7 @@ pub(crate) fn keep<R: Threads + Wait + Sync, S: Source, O: Sink, E: Sink, D: Dis
         problem: &given.problem,
         every: marks.every,
         target: stop_of(&given.problem, marks.to),
+        deltas: marks.deltas,
     };
     let mesh = keep_run(workers, &keeping, &given.bytes, err, disk)?;
     plot_in_threads(
@@ -208,7 +208,7 @@ pub(crate) fn show<O: Sink, D: Disk>(alloc: Global, out: &mut O, disk: &mut D) -
 /// The command `trial`: the line of a trial, or the status that refuses it. Its problem is drawn from two numbers, and always
 /// accepted.
 pub(crate) fn trial<R: Threads + Wait + Sync, O: Sink, G: Gate + Sync>(
-    workers: &Workers<'_, R, G>,
+    workers: &Workshop<'_, R, G>,
     number: u32,
     size: u32,
     out: &mut O,

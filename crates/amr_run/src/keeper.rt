@@ -4,19 +4,18 @@ ghost use Rattle.amr_checkpoint.specs.Kept.{Keeps, checkpoints_of, fault_in, run
 ghost use Rattle.amr_checkpoint.specs.Outside.{outside_at};
 ghost use Rattle.amr_run.specs.Keeper.{HasProblem, MayKeep};
 
-use amr_checkpoint::{KeepFault, Keeping, keep_state};
+use amr_checkpoint::{KeepFault, Keeping, KeptStore, keep_state};
 use amr_disk::Disk;
 use amr_drive::AfterStep;
 use amr_io::Sink;
 use amr_patch::Mesh;
-use amr_store::Store;
 
 /// Keeps the states of a run at its marks, in a lent store on a lent disk, and acknowledges them on a lent stream of errors. After
 /// a refusal there is no store.
 #[derive(Drop)]
 pub(crate) struct Keeper<'p, 's, 'e, 'd, E: Sink, D: Disk> {
     pub keeping: Keeping<'p>,
-    pub store: &'s mut Option<Store>,
+    pub store: &'s mut Option<KeptStore>,
     pub err: &'e mut E,
     pub disk: &'d mut D,
 }
@@ -26,7 +25,7 @@ impl<'p, 's, 'e, 'd, E: Sink, D: Disk> AfterStep for Keeper<'p, 's, 'e, 'd, E, D
     ghost use Rattle.std.proofs.Common.{◌∙◌, subst, sym};
     ghost use Rattle.amr_checkpoint.proofs.KeptStates.{checkpoints_on, keeps_none, keeps_on};
     ghost use Rattle.amr_checkpoint.specs.Contents.{Content};
-    ghost use Rattle.amr_checkpoint.specs.declared.acknowledging.Keeping.{Keeping};
+    ghost use Rattle.amr_checkpoint.specs.declared.acknowledgement.Keeping.{Keeping};
 
     type Fault = KeepFault;
 
@@ -36,13 +35,13 @@ impl<'p, 's, 'e, 'd, E: Sink, D: Disk> AfterStep for Keeper<'p, 's, 'e, 'd, E, D
     ghost answers = { λ a s answer b. (b.keeping ≡ a.keeping) × (b.store.ghost_name ≡ a.store.ghost_name) × (b.err.ghost_name ≡ a.err.ghost_name)
         × (b.disk.ghost_name ≡ a.disk.ghost_name)
         × ((bytes : List ℕ) → HasProblem a.store.now bytes → OnOk answer (HasProblem b.store.now bytes)
-        × (let shown = outside_at D.seen D.moment D.leaves D.faults E.holds E.faults in Keeps (shown a.disk.now a.err.now) (shown b.disk.now b.err.now)
+        × (let shown = outside_at D.seen D.moment D.leaves D.faults E.holds E.faults in Keeps a.keeping.deltas (shown a.disk.now a.err.now) (shown b.disk.now b.err.now)
         (checkpoints_of (run_of bytes a.keeping) (s ∷ [])) (fault_in answer))) };
 
     ghost made = { λ a states answer b. (b.keeping ≡ a.keeping) × (b.store.ghost_name ≡ a.store.ghost_name) × (b.err.ghost_name ≡ a.err.ghost_name)
         × (b.disk.ghost_name ≡ a.disk.ghost_name)
         × ((bytes : List ℕ) → HasProblem a.store.now bytes → OnOk answer (HasProblem b.store.now bytes)
-        × (let shown = outside_at D.seen D.moment D.leaves D.faults E.holds E.faults in Keeps (shown a.disk.now a.err.now) (shown b.disk.now b.err.now)
+        × (let shown = outside_at D.seen D.moment D.leaves D.faults E.holds E.faults in Keeps a.keeping.deltas (shown a.disk.now a.err.now) (shown b.disk.now b.err.now)
         (checkpoints_of (run_of bytes a.keeping) states) (fault_in answer))) };
 
     ghost made_none = { λ a. (
@@ -52,7 +51,7 @@ impl<'p, 's, 'e, 'd, E: Sink, D: Disk> AfterStep for Keeper<'p, 's, 'e, 'd, E, D
       refl,
       λ bytes has. (
         has,
-        keeps_none (outside_at D.seen D.moment D.leaves D.faults E.holds E.faults a.disk.now a.err.now),
+        keeps_none a.keeping.deltas (outside_at D.seen D.moment D.leaves D.faults E.holds E.faults a.disk.now a.err.now),
       ),
     ) };
 
@@ -67,11 +66,11 @@ impl<'p, 's, 'e, 'd, E: Sink, D: Disk> AfterStep for Keeper<'p, 's, 'e, 'd, E, D
           let first = so_far.4 bytes has in
           let next = one.4 bytes first.0 in (
             next.0,
-            subst (λ (all : List Content). Keeps (shown a.disk.now a.err.now) (shown c.disk.now c.err.now) all (fault_in answer))
+            subst (λ (all : List Content). Keeps a.keeping.deltas (shown a.disk.now a.err.now) (shown c.disk.now c.err.now) all (fault_in answer))
                 (sym (checkpoints_on (run_of bytes a.keeping) states (s ∷ [])))
-                (keeps_on (shown a.disk.now a.err.now) (shown b.disk.now b.err.now) (shown c.disk.now c.err.now) (kept states) (kept (s ∷ []))
+                (keeps_on a.keeping.deltas (shown a.disk.now a.err.now) (shown b.disk.now b.err.now) (shown c.disk.now c.err.now) (kept states) (kept (s ∷ []))
                 (fault_in answer) first.1
-                (subst (λ (k : Keeping). Keeps (shown b.disk.now b.err.now) (shown c.disk.now c.err.now) (checkpoints_of (run_of bytes k) (s ∷ []))
+                (subst (λ (k : Keeping). Keeps k.deltas (shown b.disk.now b.err.now) (shown c.disk.now c.err.now) (checkpoints_of (run_of bytes k) (s ∷ []))
                 (fault_in answer)) so_far.0 next.1)),
           ),
     ) };

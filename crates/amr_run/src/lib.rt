@@ -2,14 +2,14 @@
 #![tactic(auto)]
 
 mod batch;
+mod checkpoints;
 mod commands;
 mod keeper;
-mod keeping;
 mod laws;
 mod line;
 mod message;
-mod reading;
 mod run;
+mod source;
 mod status;
 
 pub use laws::replies_stand_alone;

@@ -13,7 +13,7 @@ use amr_io::{Fragment, Sink, WriteFault};
 use amr_problem::{Key, ProblemFault};
 
 const USAGE: &str =
-    "amr: usage: run [--workers W] [--to K] [--keep E] | check | show | trial NUMBER SIZE [--workers W] | batch [--workers W]";
+    "amr: usage: run [--workers W] [--to K] [--keep E] [--deltas D] | check | show | trial NUMBER SIZE [--workers W] | batch [--workers W]";
 
 /// Writes the line of a refusal, nothing where all is done.
 pub(crate) fn tell<E: Sink>(err: &mut E, status: &Status) -> Result<(), WriteFault>

@@ -1,9 +1,9 @@
 //! The top call.
-ghost use Rattle.std.specs.Prelude.{◌≡◌, ◌≢◌, ◌⊎◌, ◌<◌, ◌≤◌, List, ℕ, Some, None, Err, IfErr, IfSome, OnOk};
+ghost use Rattle.std.specs.Prelude.{◌≡◌, ◌≢◌, ◌<◌, List, ℕ, Some, None, Err, IfErr, IfSome, OnOk};
 ghost use Rattle.std.specs.Io.KnownBytes.{IsAtEnd};
-ghost use Rattle.amr_causes.specs.Causes.{Rose};
 ghost use Rattle.amr_causes.specs.Bytes.{Grows, WereLeft};
 ghost use Rattle.amr_cli.specs.Words.{HasRanges, HasWorkers, command_of};
+ghost use Rattle.amr_run.specs.Faults.{HasCauses, faults_at};
 ghost use Rattle.amr_run.specs.Outcome.{EndsSettled, Outcome, RepliesTo, StopsTo, status_of};
 ghost use Rattle.amr_run.specs.Reading.{TakesAtMost};
 ghost use Rattle.amr_run.specs.Served.{Serves};
@@ -12,7 +12,7 @@ ghost use Rattle.amr_store.specs.Phases.{OnlyReads};
 
 use crate::Status;
 use crate::batch::batch;
-use crate::commands::{Marks, Workers, check, keep, run, show, trial};
+use crate::commands::{Marks, Workshop, check, keep, run, show, trial};
 use crate::message::tell;
 use amr_cli::{CliFault, Command, Line, parse};
 use amr_disk::Disk;
@@ -108,13 +108,8 @@ fn serve<R: Threads + Wait + Sync, S: Source, O: Sink, E: Sink, D: Disk, G: Gate
     ensures unwritten { (refusal : _) → result ≡ Status.Store refusal → OnlyReads D.seen D.moment D.leaves disk.old disk.new }
     ensures source_first { result ≡ Status.ReadFault → disk.new ≡ disk.old }
     ensures judged_first { (fault : _) → result ≡ Status.Problem fault → disk.new ≡ disk.old }
-    ensures read_fault { result ≡ Status.ReadFault → Rose (S.faults src.old) (S.faults src.new) }
-    ensures disk_fault { result ≡ Status.DiskFault → Rose (D.faults disk.old) (D.faults disk.new) }
-    ensures write_fault { result ≡ Status.WriteFault
-        → (Rose (O.faults out.old) (O.faults out.new) × (E.faults err.new ≡ E.faults err.old)) ⊎ Rose (E.faults err.old) (E.faults err.new) }
-    ensures no_read_fault { result ≢ Status.ReadFault → S.faults src.new ≡ S.faults src.old }
-    ensures no_disk_fault { result ≢ Status.DiskFault → D.faults disk.new ≡ D.faults disk.old }
-    ensures no_write_fault { result ≢ Status.WriteFault → (O.faults out.new ≡ O.faults out.old) × (E.faults err.new ≡ E.faults err.old) }
+    ensures causes { let faults = faults_at S.faults O.faults E.faults D.faults in
+        HasCauses result (faults src.old out.old err.old disk.old) (faults src.new out.new err.new disk.new) }
 {
     match parse(shell.alloc, words) {
         Err(CliFault::Usage) => Status::Usage,
@@ -152,13 +147,8 @@ fn answer<R: Threads + Wait + Sync, S: Source, O: Sink, E: Sink, D: Disk, G: Gat
     ensures unwritten { (refusal : _) → result ≡ Err (Status.Store refusal) → OnlyReads D.seen D.moment D.leaves disk.old disk.new }
     ensures source_first { result ≡ Err Status.ReadFault → disk.new ≡ disk.old }
     ensures judged_first { (fault : _) → result ≡ Err (Status.Problem fault) → disk.new ≡ disk.old }
-    ensures read_fault { result ≡ Err Status.ReadFault → Rose (S.faults src.old) (S.faults src.new) }
-    ensures no_read_fault { result ≢ Err Status.ReadFault → S.faults src.new ≡ S.faults src.old }
-    ensures disk_fault { result ≡ Err Status.DiskFault → Rose (D.faults disk.old) (D.faults disk.new) }
-    ensures no_disk_fault { result ≢ Err Status.DiskFault → D.faults disk.new ≡ D.faults disk.old }
-    ensures write_fault { result ≡ Err Status.WriteFault
-        → (Rose (O.faults out.old) (O.faults out.new) × (E.faults err.new ≡ E.faults err.old)) ⊎ Rose (E.faults err.old) (E.faults err.new) }
-    ensures no_write_fault { result ≢ Err Status.WriteFault → (O.faults out.new ≡ O.faults out.old) × (E.faults err.new ≡ E.faults err.old) }
+    ensures causes { let faults = faults_at S.faults O.faults E.faults D.faults in
+        HasCauses (status_of result) (faults src.old out.old err.old disk.old) (faults src.new out.new err.new disk.new) }
 {
     match command {
         Command::Run(options) => {
@@ -169,6 +159,7 @@ fn answer<R: Threads + Wait + Sync, S: Source, O: Sink, E: Sink, D: Disk, G: Gat
                     let marks = Marks {
                         to: options.to,
                         every,
+                        deltas: options.deltas,
                     };
                     keep(&workers, marks, src, out, err, disk)
                 }
@@ -186,11 +177,11 @@ fn answer<R: Threads + Wait + Sync, S: Source, O: Sink, E: Sink, D: Disk, G: Gat
 }
 
 /// So many workers on the threads of a call, with its memory.
-fn workers_of<'a, R, G>(shell: &Shell<'a, R, G>, count: u32) -> Workers<'a, R, G>
+fn workers_of<'a, R, G>(shell: &Shell<'a, R, G>, count: u32) -> Workshop<'a, R, G>
     ensures count { result.count ≡ count }
     ensures gate { result.gate.now ≡ shell.now.gate.now }
 {
-    Workers {
+    Workshop {
         runtime: shell.runtime,
         count,
         gate: shell.gate,

@@ -1,13 +1,13 @@
 -- A gate that is written, and what the slot behind it holds.
 use Rattle.std.proofs.Common.{◌≡◌, ◌⊎◌, inl, inr, ℕ, ◌+◌, ◌≤◌, ◌<◌, ◌==◌, nat_lt, true, false, List, length, Option, Some, None, sym, ◌∙◌, ap, arith}
 use Rattle.std.proofs.lemmas.Bool.{cases_Bool, ltb-true, ltb-false}
-use Rattle.std.specs.Prelude.{slice_index, slice_range, if◌then◌else◌}
+use Rattle.std.specs.Prelude.{slice_index, slice_range}
 use Rattle.std.proofs.lemmas.Bool.Decides.{nat_tests}
 use Rattle.amr_store.proofs.Parts.{SameHead}
 use Rattle.amr_store.proofs.Places.{Outside, long_same, range_same}
 use Rattle.amr_store.proofs.Slots.{slot_kept, gate_within, sound_closed, sound_full, entry_closed, entry_open}
-use Rattle.amr_store.specs.Layout.{open_gate, long_at, magic_1}
-use Rattle.amr_store.specs.Stored.{IsFilled, Entry, State, is_open, is_broken, entry_at, latest_entry, state_of}
+use Rattle.amr_store.specs.Layout.{open_gate, version_by, long_at}
+use Rattle.amr_store.specs.Stored.{IsFilled, Entry, State, is_open, is_broken, entry_at, latest_entry, records_of, state_of}
 
 -- the slot is sound, and holds what it held, or nothing
 pub record HeldOrNone (old new : List ℕ) (gate size : ℕ) : Type 0 where
@@ -77,16 +77,18 @@ opening old new gate size sequence payload out filled =
     ]
 
 -- what a store shows with the head of another
-pub state_kept : (old new : List ℕ) → SameHead old new → state_of new ≡ record (state_of old) { latest = latest_entry new }
-state_kept old new head = same _ _ _ _ _ _ head.magic head.problem head.size
+pub state_kept : (old new : List ℕ) → SameHead old new → state_of new ≡ record (state_of old) { latest = latest_entry new; records = records_of new }
+state_kept old new head = same _ _ _ _ _ _ _ _ head.magic head.problem head.size head.deltas
   where
-    shown : ℕ → List ℕ → ℕ → State
-    shown magic problem size = record {
-      version = if magic == magic_1 then 1 else 2;
+    shown : ℕ → List ℕ → ℕ → ℕ → State
+    shown magic problem size deltas = record {
+      version = version_by magic;
       problem = problem;
       slot_size = size;
+      deltas = deltas;
       latest = latest_entry new;
+      records = records_of new;
     }
 
-    same : (m n : ℕ) (p q : List ℕ) (t u : ℕ) → m ≡ n → p ≡ q → t ≡ u → shown m p t ≡ shown n q u
-    same m n p q t u e f g = cc
+    same : (m n : ℕ) (p q : List ℕ) (t u : ℕ) (d e : ℕ) → m ≡ n → p ≡ q → t ≡ u → d ≡ e → shown m p t d ≡ shown n q u e
+    same m n p q t u d e f g h i = cc

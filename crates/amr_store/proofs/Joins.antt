@@ -4,7 +4,7 @@ use Rattle.std.specs.Prelude.{IsSome, option_map}
 use Rattle.amr_disk.specs.Moments.{StopsIn}
 use Rattle.amr_disk.specs.Image.{Only}
 use Rattle.amr_store.proofs.Runs.{joins, only_at, started, weaker}
-use Rattle.amr_store.specs.Created.{EmptyOrNew}
+use Rattle.amr_store.specs.Created.{EmptyOrWith}
 use Rattle.amr_store.specs.Renewed.{SameOrRenewed}
 use Rattle.amr_store.specs.Stored.{Stored, Empty, stored}
 
@@ -43,10 +43,10 @@ some_of (Some t) is = (t, refl)
 
 -- nothing was written: a stop leaves what was there
 module _ {D : Type 0} (seen : D → Option (List ℕ)) (moment : D → ℕ) (leaves : D → ℕ → List ℕ → Type 0) (disk : D) where
-  pub nothing_made : (version : ℕ) (problem : List ℕ) (size : ℕ) (s : List ℕ) → Only (seen disk) (leaves disk (moment disk)) → seen disk ≡ Some s → stored s ≡ Empty
-      → StopsIn moment leaves disk disk (EmptyOrNew version problem size s)
-  nothing_made version problem size s settled is empty =
-      started moment leaves disk (EmptyOrNew version problem size s) (λ i left. inl (ap stored (only_at moment leaves disk _ s is settled i left) ∙ empty))
+  pub nothing_made : (version deltas : ℕ) (problem : List ℕ) (size : ℕ) (s : List ℕ) → Only (seen disk) (leaves disk (moment disk)) → seen disk ≡ Some s → stored s ≡ Empty
+      → StopsIn moment leaves disk disk (EmptyOrWith version deltas problem size s)
+  nothing_made version deltas problem size s settled is empty =
+      started moment leaves disk (EmptyOrWith version deltas problem size s) (λ i left. inl (ap stored (only_at moment leaves disk _ s is settled i left) ∙ empty))
 
   pub nothing_renewed : (problem : List ℕ) (size sequence : ℕ) (payload s : List ℕ) → Only (seen disk) (leaves disk (moment disk)) → seen disk ≡ Some s
       → StopsIn moment leaves disk disk (SameOrRenewed problem size sequence payload s)

@@ -1,5 +1,9 @@
 pub mod Examples
 pub mod Tables
+pub mod Chains
+pub mod Groups
+pub mod NewTables
+pub mod Leads
 pub mod Images
 pub mod Parts
 pub mod Places
@@ -10,12 +14,17 @@ pub mod Gates
 pub mod Moves
 pub mod Writes
 pub mod Calls
+pub mod Steps
 pub mod Joins
 pub mod Creation
+pub mod Heads
+pub mod Creation3
 pub mod Readings
 pub mod PartsRead
 pub mod Openings
+pub mod Recorded
 pub mod Entries
 pub mod Renewals
+pub mod RenewedStores
 pub mod Seen
 pub mod Puts

@@ -1,13 +1,12 @@
 -- What an image is stored as, by what the tests on it find.
-use Rattle.std.proofs.Common.{◌≡◌, inl, inr, ℕ, ◌+◌, ◌≤◌, ◌==◌, nat_le, nat_lt, Bool, true, false, not, ◌&&◌, ◌||◌, List, [], ◌∷◌, ◌++◌, length, drop, Option, Some, None, refl, sym, ◌∙◌, ap, subst, arith}
-use Rattle.std.proofs.lemmas.Bool.{cases_Bool, eqb-true}
+use Rattle.std.proofs.Common.{◌≡◌, inl, inr, ℕ, ◌+◌, ◌≤◌, ◌==◌, nat_le, nat_lt, Bool, true, false, not, ◌&&◌, ◌||◌, List, [], ◌∷◌, ◌++◌, length, drop, Option, Some, None, refl, sym, ◌∙◌, ap, subst, arith, ap₂}
+use Rattle.std.proofs.lemmas.Bool.{cases_Bool}
 use Rattle.std.proofs.lemmas.Bool.Decides.{nat_tests}
-use Rattle.std.specs.Prelude.{slice_range, option_map, nat_eq, if◌then◌else◌}
+use Rattle.std.specs.Prelude.{slice_range, nat_eq}
 use Rattle.std.specs.Cmp.Lexicographic.{pointwise}
 use Rattle.std.proofs.Math.Bool.{and_assoc}
 use Rattle.amr_store.proofs.Calls.{stands_at}
 use Rattle.amr_store.proofs.Images.{base_plain, base_renewed, one_row, stored_is}
-use Rattle.amr_store.proofs.PartsRead.{not_both}
 use Rattle.amr_store.proofs.Whole.{found_append, front_found, whole_of}
 use Rattle.amr_store.specs.declared.check.Outline.{Outline}
 use Rattle.amr_store.specs.declared.found.Found.{Found}
@@ -18,15 +17,15 @@ use Rattle.amr_store.specs.declared.slot.Slot.{Slot}
 use Rattle.amr_store.specs.declared.store.Store.{Store}
 use Rattle.amr_store.specs.declared.reading.Head.{Head}
 use Rattle.amr_store.specs.Checking.{IsOutline, IsHeldBy, IsInner, IsRenewedAt}
-use Rattle.amr_store.specs.Layout.{long_at, problem_of, text_length, end_of}
+use Rattle.amr_store.specs.Layout.{magic_1, magic_3, version_by, long_at, problem_of, text_length, end_of}
 use Rattle.amr_store.specs.Opened.{Finds, FindsIn, IsReadyFound, IsRenewedFound, IsStoreAtBase, IsUnshut}
 use Rattle.amr_store.specs.Reading.{SaysHead, magic_in}
-use Rattle.amr_store.specs.Table.{latest_base, sequence_in, last_of}
-use Rattle.amr_store.proofs.Tables.{table_index, latest_within}
+use Rattle.amr_store.specs.Table.{chain_of, last_of, latest_base, sequence_in, slot_at}
+use Rattle.amr_store.proofs.Recorded.{of_records, first_records}
 use Rattle.amr_disk.specs.Image.{Only}
-use Rattle.amr_store.specs.Shown.{Shows}
+use Rattle.amr_store.specs.Shown.{Shows, last_entry, sequence_of}
 use Rattle.amr_store.specs.Stands.{Stands, base_in, version_in, problem_in, slot_size_in, deltas_in, slots_in}
-use Rattle.amr_store.specs.Stored.{Entry, Empty, Damaged, stored, state_of, is_empty, is_open, is_renewed, end_in, tests, renewal_tests, damage_in, first_found, slot_of, deltas_of, count_of, entry_of, known_of, slots_of, latest_entry, has_magic_1, has_magic_2}
+use Rattle.amr_store.specs.Stored.{Entry, latest_entry, Empty, Damaged, stored, state_of, is_empty, is_open, is_renewed, end_in, tests, renewal_tests, damage_in, first_found, deltas_of, slots_of, has_magic_1, has_magic_2}
 
 damaged_stored : (s : List ℕ) (p : Part) → is_empty s ≡ false → damage_in s ≡ Some p → stored s ≡ Damaged p
 damaged_stored s p held damage = rw (held, damage) refl
@@ -65,20 +64,25 @@ outer_damaged s p held found = damaged_stored s p held (front_found (tests (magi
 
 -- the end of a store by its head
 pub end_is : (head : Head) (s : List ℕ) → SaysHead head s → end_in s ≡ end_of head.text head.slot_size
-end_is head s is = ends _ _ _ _ (sym is.text_is) (sym is.size_is)
-  where
-    ends : (m n t u : ℕ) → m ≡ n → t ≡ u → end_of m t ≡ end_of n u
-    ends m n t u e f = cc
+end_is head s is = ap₂ end_of (sym is.text_is) (sym is.size_is)
 
-one_is : (b : Bool) (v : ℕ) → v ≡ (if b then 1 else 2) → (v == 1) ≡ b
-one_is true v is = ap (λ (n : ℕ). n == 1) is
-one_is false v is = ap (λ (n : ℕ). n == 1) is
+one_is : (m v : ℕ) → v ≡ version_by m → (v == 1) ≡ (m == magic_1)
+one_is m v is = ap (λ (n : ℕ). n == 1) is ∙ first m
+  where
+    first : (m : ℕ) → (version_by m == 1) ≡ (m == magic_1)
+    first m = elim (cases_Bool (m == magic_1)) [
+      | inl one ↦ rw one refl
+      | inr other ↦ elim (cases_Bool (m == magic_3)) [
+        | inl three ↦ rw (other, three) refl
+        | inr none ↦ rw (other, none) refl
+      ]
+    ]
 
 -- whether it was renewed, by its head
 pub renewed_is : (head : Head) (s : List ℕ) (has : Bool) → SaysHead head s
     → has ≡ ((head.version == 1) && (nat_lt (end_of head.text head.slot_size + 1) (length s) && is_open s (end_of head.text head.slot_size))) → has ≡ is_renewed s
 renewed_is head s has is tests =
-    tests ∙ same (head.version == 1) (has_magic_1 s) (end_of head.text head.slot_size) (end_in s) (one_is (has_magic_1 s) head.version is.version_is) (sym (end_is head s is))
+    tests ∙ same (head.version == 1) (has_magic_1 s) (end_of head.text head.slot_size) (end_in s) (one_is (long_at s 1) head.version is.version_is) (sym (end_is head s is))
   where
     same : (a b : Bool) (m n : ℕ) → a ≡ b → m ≡ n → (a && (nat_lt (m + 1) (length s) && is_open s m)) ≡ (b && nat_lt (n + 1) (length s) && is_open s n)
     same a b m n e f = rw (e, f) (sym (and_assoc b (nat_lt (n + 1) (length s)) (is_open s n)))
@@ -89,13 +93,13 @@ plain_none s plain = rw plain refl
 -- a store in memory stands for an image that was not renewed
 pub plain_stands : (store : Store) (outline : Outline) (s : List ℕ) → IsHeldBy outline.head s → IsOutline outline s → is_renewed s ≡ false → base_in store ≡ 0
     → version_in store ≡ outline.head.version → (21 + outline.head.text ≤ length s → problem_in store ≡ slice_range s 21 (21 + outline.head.text)) → slot_size_in store ≡ outline.head.slot_size
-    → deltas_in store ≡ 0 → slots_in store ≡ outline.slots.items → Stands store s
+    → deltas_in store ≡ outline.deltas → slots_in store ≡ outline.slots.items → Stands store s
 plain_stands store outline s is outline_is plain base version problem size deltas slots =
     let whole = whole_of (magic_in true s) s is.sound in
     let head = is.head_is in
     stands_at store s 0 (sym base)
     record { held = is.held; sound = found_append (tests (magic_in true s) s) (renewal_tests s) is.sound ∙ plain_none s plain; base_is = base_plain s plain }
-    (version ∙ head.version_is) (problem (omega (arith, whole.text_whole, head.text_is)) ∙ ap (λ (n : ℕ). slice_range s 21 (21 + n)) head.text_is) (size ∙ head.size_is) deltas (slots ∙ outline_is.slots)
+    (version ∙ head.version_is) (problem (omega (arith, whole.text_whole, head.text_is)) ∙ ap (λ (n : ℕ). slice_range s 21 (21 + n)) head.text_is) (size ∙ head.size_is) (deltas ∙ outline_is.deltas) (slots ∙ outline_is.slots)
 
 renewal_is : (s : List ℕ) → is_renewed s ≡ true → first_found (renewal_tests s)
     ≡ first_found (tests (has_magic_2 (drop (end_in s) s)) (drop (end_in s) s) ++ (not (pointwise nat_eq (problem_of (drop (end_in s) s)) (problem_of s)), Renewal) ∷ [])
@@ -147,7 +151,6 @@ renewed_stands : (store : Store) (text : ℕ) (inner : Outline) (s problem old :
 renewed_stands store text inner s problem old is of read equal problem_is store_is =
     let part = drop (end_in s) s in
     let head = of.outline_is.head in
-    let other : has_magic_1 part ≡ false = not_both (long_at part 1) (whole_of (has_magic_2 part) part of.sound).magic in
     let same = same_problems text inner s problem old true is of read equal in
     stands_at store s (end_in s) (sym store_is.base_is)
     record {
@@ -155,34 +158,29 @@ renewed_stands store text inner s problem old is of read equal problem_is store_
       sound = damage_is s is.sound is.renewed ∙ found_append (tests (has_magic_2 part) part) ((not (pointwise nat_eq (problem_of part) (problem_of s)), Renewal) ∷ []) of.sound ∙ one_row (pointwise nat_eq (problem_of part) (problem_of s)) same;
       base_is = base_renewed s is.renewed;
     }
-    (store_is.version ∙ sym (rw other refl)) (problem_is ∙ problem_at inner.head.text part (magic_in false part) problem of.sound head.text_is read.new_told) (store_is.slot_size ∙ head.size_is)
-    store_is.deltas (store_is.slots ∙ of.outline_is.slots)
+    (store_is.version ∙ head.version_is) (problem_is ∙ problem_at inner.head.text part (magic_in false part) problem of.sound head.text_is read.new_told) (store_is.slot_size ∙ head.size_is)
+    (store_is.deltas ∙ of.outline_is.deltas) (store_is.slots ∙ of.outline_is.slots)
 
 -- a store that stands for an image shows what is stored
 pub shows_of : (store : Store) (s : List ℕ) → Stands store s → Shows store (stored s)
 shows_of store s is =
-    let part = drop (base_in store) s in (
+    let part = drop (base_in store) s in
+    let all = of_records part (chain_of (deltas_of part) (slots_of part)) (omega arith) in (
       state_of part,
       stored_is s (base_in store) is.reads,
       record {
         version = is.version;
         problem = is.problem;
         slot_size = is.slot_size;
-        last = lasts _ _ _ _ is.deltas is.slots ∙ last_is part;
+        deltas = is.deltas;
+        chain = ap₂ chain_of is.deltas is.slots ∙ sym all.count;
+        last = ap₂ last_of is.deltas is.slots ∙ all.last;
+        sequences = λ number le.
+            let few : number ≤ chain_of (deltas_of part) (slots_of part) = omega (arith, le, all.count) in
+            ap₂ (λ (d : ℕ) (l : List (Option Slot)). sequence_in (slot_at l (latest_base d l + number))) is.deltas is.slots ∙ (of_records part number few).last
+            ∙ ap (λ (l : List Entry). sequence_of (last_entry (latest_entry part) l)) (sym (first_records part number (chain_of (deltas_of part) (slots_of part)) few (omega arith)));
       },
     )
-  where
-    lasts : (m n : ℕ) (t u : List (Option Slot)) → m ≡ n → t ≡ u → last_of m t ≡ last_of n u
-    lasts m n t u e f = cc
-
-    sequences : (o : Option Entry) → sequence_in (option_map slot_of o) ≡ option_map (λ (e : Entry). e.sequence) o
-    sequences None = refl
-    sequences (Some e) = refl
-
-    last_is : (part : List ℕ) → last_of (deltas_of part) (slots_of part) ≡ option_map (λ (e : Entry). e.sequence) (latest_entry part)
-    last_is part =
-        let k = latest_base (deltas_of part) (slots_of part) in
-        ap sequence_in (table_index (λ j. known_of part j) (count_of part) k None (latest_within (deltas_of part) (slots_of part))) ∙ sequences (entry_of part k)
 
 -- the new store of a renewed one, by what was made of its problem and the old one
 renewed_found : (found : Found) (text : ℕ) (inner : Outline) (s problem old : List ℕ) → IsRenewedFound (end_in s) inner problem old found → IsRenewedAt text (end_in s) s → IsInner inner (drop (end_in s) s)
@@ -208,15 +206,6 @@ pub ready_found : {D : Type 0} (seen : D → Option (List ℕ)) (moment : D → 
 ready_found seen moment leaves Nothing disk open_is finds settled = tt
 ready_found seen moment leaves (Ready store) disk open_is finds settled = (open_is, record { settled = λ shut. settled; stands = λ shut s is. finds s is })
 ready_found seen moment leaves (Faulty part) disk open_is finds settled = tt
-
-no_version : (v : ℕ) (b : Bool) → (v ≡ 1 → ⊥) → false ≡ ((v == 1) && b)
-no_version v b not_one = elim (cases_Bool (v == 1)) [
-  | inl one ↦ absurd (not_one (eqb-true v 1 one))
-  | inr other ↦ rw other refl
-]
-
-pub not_renewed : (head : Head) (s : List ℕ) → SaysHead head s → (head.version ≡ 1 → ⊥) → false ≡ is_renewed s
-not_renewed head s is not_one = renewed_is head s false is (no_version head.version _ not_one)
 
 pub maybe_renewed : (head : Head) (s : List ℕ) (has : Bool) → SaysHead head s → head.version ≡ 1
     → has ≡ (nat_lt (end_of head.text head.slot_size + 1) (length s) && is_open s (end_of head.text head.slot_size)) → has ≡ is_renewed s

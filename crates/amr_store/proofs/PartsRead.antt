@@ -1,11 +1,12 @@
 -- What the parts of a store say that were read.
-use Rattle.std.proofs.Common.{◌≡◌, inl, inr, ℕ, ◌+◌, ◌≤◌, ◌<◌, ◌==◌, nat_le, nat_lt, Bool, true, false, not, ◌&&◌, ◌||◌, List, [], ◌∷◌, ◌++◌, length, drop, Option, Some, None, refl, sym, ◌∙◌, ap, subst, arith}
+use Rattle.std.proofs.Common.{◌≡◌, inl, inr, ℕ, ◌+◌, ◌≤◌, ◌<◌, ◌==◌, nat_le, nat_lt, Bool, true, false, not, ◌&&◌, ◌||◌, List, [], ◌∷◌, ◌++◌, length, drop, Option, Some, None, refl, sym, ◌∙◌, ap, subst, arith, ap₂}
 use Rattle.std.proofs.lemmas.Bool.{cases_Bool, ltb-true, ltb-false, lt-ltb, le-ltb, le-leb, or_from, or_left, or_right, not_from_false, not_from_true, eqb-true}
+use Rattle.std.proofs.lemmas.Bool.Decides.{nat_tests}
 use Rattle.std.proofs.lemmas.List.{get_or-drop}
 use Rattle.std.specs.Global.{Vec}
 use Rattle.std.specs.Prelude.{slice_index, slice_range, option_map, if◌then◌else◌, Result, Ok, Err, IfOk}
 use Rattle.amr_store.proofs.Slots.{sound_full, sound_closed, entry_closed, entry_open}
-use Rattle.amr_store.proofs.Writes.{range_is}
+use Rattle.amr_store.proofs.Writes.{range_index, range_length}
 use Rattle.amr_store.specs.declared.check.Outline.{Outline}
 use Rattle.amr_store.specs.declared.check.Checked.{Checked}
 use Rattle.amr_store.specs.declared.check.Checked.TheVariants.{Whole, Faulty}
@@ -17,12 +18,12 @@ use Rattle.amr_store.specs.declared.reading.Head.{Head}
 use Rattle.amr_store.specs.declared.reading.SlotFound.TheVariants.{Sound, Broken}
 use Rattle.amr_store.specs.declared.slot.Slot.{Slot as Known}
 use Rattle.amr_store.specs.Checking.{AreSlots, SlotsRead, BrokenFirst, Checks}
-use Rattle.amr_store.specs.Layout.{open_gate, magic_1, magic_2, long_at, word_at, gate_at, size_of, text_length}
-use Rattle.amr_store.specs.Reading.{IsRead, IsHeadOf, SaysHead, IsBegun, IsOpened, IsSlot, version_read, head_with, head_read, magic_in, slot_read}
-use Rattle.amr_store.specs.Stored.{Entry, entry_at, is_open, is_broken, slot_of, deltas_of, count_of, slots_of, slot_tests, first_found}
-use Rattle.amr_store.specs.Table.{table, is_tied}
-use Rattle.amr_store.proofs.Whole.{slot_row, rows_pass, row_found, front_found, found_append, slots_pass}
-use Rattle.amr_store.proofs.Entries.{range_length}
+use Rattle.amr_store.specs.Layout.{open_gate, magic_1, magic_2, magic_3, version_by, lead_length, lead_of, long_at, word_at, gate_at, size_of, text_length}
+use Rattle.amr_store.specs.Reading.{IsRead, IsHeadOf, SaysHead, AreDeltas, IsBegun, IsOpened, IsSlot, version_read, deltas_read, head_with, head_read, magic_in, front_read, slot_read}
+use Rattle.amr_store.specs.Stored.{Entry, entry_at, is_open, is_broken, front_in, slot_of, has_magic_3, has_bad_deltas, deltas_of, count_of, slots_of, slot_tests, first_found}
+use Rattle.amr_store.specs.Table.{table, slot_count, is_tied, IsFirstStray}
+use Rattle.amr_store.proofs.Leads.{other_sound, other_deltas, third_deltas, other_version, number_sound}
+use Rattle.amr_store.proofs.Whole.{slot_row, stray_row, slot_rows, stray_rows, tie_row, slot_tests_are, after_slots, row_found, front_found, slots_pass}
 use Rattle.amr_store.proofs.Tables.{table_more}
 
 pub if_ok_both : {T E : Type 0} (r : Result T E) (P Q R : T → Type 0) → IfOk r P → IfOk r Q → ((x : T) → P x → Q x → R x) → IfOk r R
@@ -47,16 +48,17 @@ read_word part bytes n at p read within =
     sums : (i : ℕ) → at + (p + i) ≡ at + p + i
     sums i = omega arith
 
--- a buffer that was filled holds a range
-pub read_range : (part bytes : List ℕ) (n at : ℕ) → IsRead part at bytes n → at + length bytes ≤ length part → bytes ≡ slice_range part at (at + length bytes)
-read_range part bytes n at read whole =
-    let all : n ≡ length bytes = omega (arith, read.count) in
-    sym (range_is part at bytes whole (λ i lt. sym (read.bytes i (omega (arith, all)))))
+-- the number that a range begins with
+range_long : (part : List ℕ) (a m : ℕ) → 8 ≤ m → a + m ≤ length part → long_at (slice_range part a (a + m)) 0 ≡ long_at part a
+range_long part a m eight within =
+    let e : (i : ℕ) → i < 8 → slice_index (drop 0 (slice_range part a (a + m))) i ≡ slice_index (drop a part) i = λ i lt.
+    range_index part a m i (omega arith) within ∙ sym (get_or-drop a part i 0) in
+    rw (e 0 (omega arith), e 1 (omega arith), e 2 (omega arith), e 3 (omega arith), e 4 (omega arith), e 5 (omega arith), e 6 (omega arith), e 7 (omega arith)) refl
 
 -- what a version says of the magic
 abbrev KnownVersion : Option ℕ → Bool → ℕ → Type 0
-KnownVersion None m k = ((m && (k == magic_1)) || (k == magic_2)) ≡ false
-KnownVersion (Some v) m k = (v ≡ (if k == magic_1 then 1 else 2)) × (((m && (k == magic_1)) || (k == magic_2)) ≡ true)
+KnownVersion None m k = ((m && ((k == magic_1) || (k == magic_3))) || (k == magic_2)) ≡ false
+KnownVersion (Some v) m k = (v ≡ version_by k) × (((m && ((k == magic_1) || (k == magic_3))) || (k == magic_2)) ≡ true)
 
 pub not_both : (k : ℕ) → (k == magic_2) ≡ true → (k == magic_1) ≡ false
 not_both k is = ap (λ (n : ℕ). n == magic_1) (eqb-true k magic_2 is)
@@ -66,16 +68,22 @@ known_as o m k read known = subst (λ (x : Option ℕ). KnownVersion x m k) (sym
 
 second_version : (m : Bool) (k : ℕ) → (k == magic_2) ≡ true → KnownVersion (version_read m k) m k
 second_version m k two =
-    let number : 2 ≡ (if k == magic_1 then 1 else 2) = rw (not_both k two) refl in
-    known_as (Some 2) m k (rw two refl) (number, or_right (m && (k == magic_1)) (k == magic_2) two)
+    let number : 2 ≡ version_by k = sym (ap version_by (eqb-true k magic_2 two)) in
+    known_as (Some 2) m k (rw two refl) (number, or_right (m && ((k == magic_1) || (k == magic_3))) (k == magic_2) two)
 
 first_version : (k : ℕ) → (k == magic_2) ≡ false → (k == magic_1) ≡ true → KnownVersion (version_read true k) true k
 first_version k other one =
-    let number : 1 ≡ (if k == magic_1 then 1 else 2) = rw one refl in
-    known_as (Some 1) true k (rw (other, one) refl) (number, or_left (true && (k == magic_1)) (k == magic_2) one)
+    let number : 1 ≡ version_by k = rw one refl in
+    known_as (Some 1) true k (rw (other, one) refl) (number, or_left (true && ((k == magic_1) || (k == magic_3))) (k == magic_2) (or_left (k == magic_1) (k == magic_3) one))
 
-no_version : (k : ℕ) → (k == magic_2) ≡ false → (k == magic_1) ≡ false → KnownVersion (version_read true k) true k
-no_version k other none = known_as None true k (rw (other, none) refl) (or_from (true && (k == magic_1)) (k == magic_2) none other)
+third_version : (k : ℕ) → (k == magic_2) ≡ false → (k == magic_1) ≡ false → (k == magic_3) ≡ true → KnownVersion (version_read true k) true k
+third_version k other none three =
+    let number : 3 ≡ version_by k = rw (none, three) refl in
+    known_as (Some 3) true k (rw (other, none, three) refl) (number, or_left (true && ((k == magic_1) || (k == magic_3))) (k == magic_2) (or_right (k == magic_1) (k == magic_3) three))
+
+no_version : (k : ℕ) → (k == magic_2) ≡ false → (k == magic_1) ≡ false → (k == magic_3) ≡ false → KnownVersion (version_read true k) true k
+no_version k other first third =
+    known_as None true k (rw (other, first, third) refl) (or_from (true && ((k == magic_1) || (k == magic_3))) (k == magic_2) (or_from (k == magic_1) (k == magic_3) first third) other)
 
 no_second : (k : ℕ) → (k == magic_2) ≡ false → KnownVersion (version_read false k) false k
 no_second k none = known_as None false k (rw none refl) none
@@ -85,7 +93,10 @@ known_version true k = elim (cases_Bool (k == magic_2)) [
   | inl two ↦ second_version true k two
   | inr other ↦ elim (cases_Bool (k == magic_1)) [
     | inl one ↦ first_version k other one
-    | inr none ↦ no_version k other none
+    | inr none ↦ elim (cases_Bool (k == magic_3)) [
+      | inl three ↦ third_version k other none three
+      | inr third ↦ no_version k other none third
+    ]
   ]
 ]
 known_version false k = elim (cases_Bool (k == magic_2)) [
@@ -138,7 +149,7 @@ broken : (part : List ℕ) (gate size : ℕ) → is_open part gate ≡ true
 broken part gate size opened tests = opened_broken (nat_le (length part) gate) (is_open part gate) _ opened tests
 
 -- what the first bytes of a slot say
-pub slot_begun : (part bytes : List ℕ) (n gate size : ℕ) → length bytes ≡ 17 → IsRead part gate bytes n → IsBegun (slot_read bytes n size) part gate size
+pub slot_begun : (part bytes : List ℕ) (n gate size : ℕ) → length bytes ≡ 25 → IsRead part gate bytes n → IsBegun (slot_read bytes n size) part gate size
 slot_begun part bytes n gate size wide read = elim (cases_Bool (nat_lt n 1)) [
   | inl none ↦
       let past : nat_le (length part) gate ≡ true = le-leb (length part) gate (omega (arith, read.count, ltb-true n 1 none)) in
@@ -168,8 +179,22 @@ slot_begun part bytes n gate size wide read = elim (cases_Bool (nat_lt n 1)) [
     t_4 : Bool
     t_4 = long_at part (gate + 1) == 0
 
+    -- the payload begins with the number that was read
+    same_front : (payload : List ℕ) (m : ℕ) → length payload ≡ m → (nat_lt m 8 ≡ false → long_at bytes 17 ≡ long_at payload 0) → front_read bytes m ≡ front_in payload
+    same_front payload m count is = elim (cases_Bool (nat_lt m 8)) [
+      | inl short ↦ let less : nat_lt (length payload) 8 ≡ true = ap (λ (k : ℕ). nat_lt k 8) count ∙ short in rw (short, less) refl
+      | inr long ↦ let enough : nat_lt (length payload) 8 ≡ false = ap (λ (k : ℕ). nat_lt k 8) count ∙ long in rw (long, enough) (ap (λ (k : ℕ). Some k) (is long))
+    ]
+
+    fronts : long_at bytes 9 ≡ long_at part (gate + 9) → gate + 17 + long_at bytes 9 ≤ length part → front_read bytes (long_at bytes 9) ≡ front_in (slice_range part (gate + 17) (gate + 17 + long_at bytes 9))
+    fronts count whole =
+        let m = long_at bytes 9 in
+        same_front (slice_range part (gate + 17) (gate + 17 + m)) m (range_length part (gate + 17) m whole) (λ long.
+        let eight : 8 ≤ m = ltb-false m 8 long in
+        read_long part bytes n gate 17 read (omega (arith, read.count, wide, whole, eight)) ∙ sym (range_long part (gate + 17) m eight whole))
+
     rest : gate < length part → is_open part gate ≡ true
-        → IsBegun (if nat_lt n 17 then Broken else (if nat_lt size (long_at bytes 9) then Broken else (if long_at bytes 1 == 0 then Broken else Sound (Some record { sequence = long_at bytes 1; length = long_at bytes 9 })))) part gate size
+        → IsBegun (if nat_lt n 17 then Broken else (if nat_lt size (long_at bytes 9) then Broken else (if long_at bytes 1 == 0 then Broken else Sound (Some record { sequence = long_at bytes 1; length = long_at bytes 9; front = front_read bytes (long_at bytes 9) })))) part gate size
     rest here opened = elim (cases_Bool (nat_lt n 17)) [
       | inl short ↦ rw short (broken part gate size opened (four_1 t_1 t_2 t_3 t_4 (lt-ltb (length part) (gate + 17) (omega (arith, read.count, ltb-true n 17 short)))))
       | inr long ↦
@@ -187,6 +212,7 @@ slot_begun part bytes n gate size wide read = elim (cases_Bool (nat_lt n 1)) [
                 some = counted;
                 sequence_is = number;
                 length_is = count;
+                front_is = fronts count;
               }
             ]
           ]
@@ -208,13 +234,14 @@ slot_whole slot part gate size is long =
       some = ap (λ (k : ℕ). k == 0) (sym is.sequence_is) ∙ is.some;
     } in
     let count : slot.length ≡ length (slice_range part (gate + 17) (gate + 17 + long_at part (gate + 9))) = is.length_is ∙ sym (range_length part (gate + 17) (long_at part (gate + 9)) whole) in
-    (sound, slots _ _ _ _ is.sequence_is count ∙ sym (ap (λ (o : Option Entry). option_map slot_of o) (entry_open part gate is.opened)))
+    let front = is.front_is (omega (arith, is.length_is, whole)) ∙ ap (λ (m : ℕ). front_in (slice_range part (gate + 17) (gate + 17 + m))) is.length_is in
+    (sound, slots _ _ _ _ _ _ is.sequence_is count front ∙ sym (ap (λ (o : Option Entry). option_map slot_of o) (entry_open part gate is.opened)))
   where
-    made : ℕ → ℕ → Option Known
-    made q m = Some record { sequence = q; length = m }
+    made : ℕ → ℕ → Option ℕ → Option Known
+    made q m f = Some record { sequence = q; length = m; front = f }
 
-    slots : (q r m k : ℕ) → q ≡ r → m ≡ k → made q m ≡ made r k
-    slots q r m k e f = cc
+    slots : (q r m k : ℕ) (f g : Option ℕ) → q ≡ r → m ≡ k → f ≡ g → made q m f ≡ made r k g
+    slots q r m k f g a b c = cc
 
 -- one test more
 pub more_tests : (checked : Checked) (test : Bool) (damage : Part) (rows : List (Bool × Part)) (part : List ℕ) → test ≡ false → Checks checked rows part → Checks checked ((test, damage) ∷ rows) part
@@ -228,51 +255,132 @@ pub next_test : (test : Bool) (damage found : Part) (rows : List (Bool × Part))
 next_test test damage found rows e is = rw e is
 
 -- the slots that were read, behind a head
-slots_as : (head : Head) (part : List ℕ) (found : SlotsFound) (n : ℕ) → SaysHead head part → AreSlots found part head.text head.slot_size n → AreSlots found part (text_length part) (size_of part) n
+slots_as : (head : Head) (part : List ℕ) (found : SlotsFound) (n : ℕ) → SaysHead head part → AreSlots found part (lead_length head.version head.text) head.slot_size n → AreSlots found part (lead_of part) (size_of part) n
 slots_as head part found n says is =
-    subst (λ (t : ℕ). AreSlots found part t (size_of part) n) says.text_is (subst (λ (z : ℕ). AreSlots found part head.text z n) says.size_is is)
+    subst (λ (t : ℕ). AreSlots found part t (size_of part) n) (ap₂ lead_length says.version_is says.text_is) (subst (λ (z : ℕ). AreSlots found part (lead_length head.version head.text) z n) says.size_is is)
 
-pub slot_broken : (head : Head) (part : List ℕ) (number : ℕ) → SaysHead head part → AreSlots (AnyBroken number) part head.text head.slot_size (count_of part) → first_found (slot_tests part) ≡ Some (Slot number)
+-- slots that were read behind a head, so many records behind each base
+pub record ReadBehind (head : Head) (deltas : ℕ) (part : List ℕ) (found : SlotsFound) : Type 0 where
+  pub says : SaysHead head part
+  pub deltas_is : deltas ≡ deltas_of part
+  pub slots_are : AreSlots found part (lead_length head.version head.text) head.slot_size (slot_count deltas)
+
+pub read_behind : (head : Head) (deltas : ℕ) (part : List ℕ) (found is : SlotsFound) → SaysHead head part → deltas ≡ deltas_of part → found ≡ is → AreSlots found part (lead_length head.version head.text) head.slot_size (slot_count deltas)
+    → ReadBehind head deltas part is
+read_behind head deltas part found is says count same slots = record {
+  says = says;
+  deltas_is = count;
+  slots_are = subst (λ (f : SlotsFound). AreSlots f part (lead_length head.version head.text) head.slot_size (slot_count deltas)) same slots;
+}
+
+read_as : (head : Head) (deltas : ℕ) (part : List ℕ) (found : SlotsFound) → ReadBehind head deltas part found → AreSlots found part (lead_of part) (size_of part) (count_of part)
+read_as head deltas part found is = subst (λ (d : ℕ). AreSlots found part (lead_of part) (size_of part) (slot_count d)) is.deltas_is (slots_as head part found (slot_count deltas) is.says is.slots_are)
+
+pub slot_broken : (head : Head) (deltas : ℕ) (part : List ℕ) (number : ℕ) → ReadBehind head deltas part (AnyBroken number) → first_found (slot_tests part) ≡ Some (Slot number)
 unfolding slot_row
-slot_broken head part number says is =
-    let broken = slots_as head part (AnyBroken number) (count_of part) says is in
-    front_found (table (λ k. slot_row part k) (count_of part)) ((is_tied (deltas_of part) (slots_of part), Tie) ∷ []) (Slot number)
-    (row_found (λ k. slot_row part k) (count_of part) number broken.within broken.before broken.broken)
+slot_broken head deltas part number is =
+    let broken = read_as head deltas part (AnyBroken number) is in
+    ap first_found (slot_tests_are part) ∙ front_found (slot_rows part) (tie_row part ∷ stray_rows part) (Slot number) (row_found (λ k. slot_row part k) (count_of part) number broken.within broken.before broken.broken)
 
-pub slots_tied : (head : Head) (part : List ℕ) (slots : Vec (Option Known)) → SaysHead head part → AreSlots (AllSound slots) part head.text head.slot_size (count_of part) → is_tied (deltas_of part) slots.items ≡ true → first_found (slot_tests part) ≡ Some Tie
-unfolding slot_row
-slots_tied head part slots says is tied =
-    let read = slots_as head part (AllSound slots) (count_of part) says is in
-    found_append (table (λ k. slot_row part k) (count_of part)) ((is_tied (deltas_of part) (slots_of part), Tie) ∷ []) (rows_pass (λ k. slot_row part k) (count_of part) read.sound)
-    ∙ first_test (is_tied (deltas_of part) (slots_of part)) Tie [] (sym (ap (λ (l : List (Option Known)). is_tied (deltas_of part) l) read.known) ∙ tied)
+-- what was found of the slots that were read is so of those of the part
+known_slots : (head : Head) (deltas : ℕ) (part : List ℕ) (slots : Vec (Option Known)) (P : ℕ → List (Option Known) → Type 0) → ReadBehind head deltas part (AllSound slots) → P deltas slots.items → P (deltas_of part) (slots_of part)
+known_slots head deltas part slots P is holds =
+    subst (λ (l : List (Option Known)). P (deltas_of part) l) (read_as head deltas part (AllSound slots) is).known (subst (λ (d : ℕ). P d slots.items) is.deltas_is holds)
 
-pub slots_whole : (head : Head) (part : List ℕ) (slots : Vec (Option Known)) (outline : Outline) → SaysHead head part → AreSlots (AllSound slots) part head.text head.slot_size (count_of part) → is_tied (deltas_of part) slots.items ≡ false
-    → outline.head ≡ head → outline.slots ≡ slots → Checks (Whole outline) (slot_tests part) part
-slots_whole head part slots outline says is apart head_is slots_is =
-    let read = slots_as head part (AllSound slots) (count_of part) says is in (
-      slots_pass part read.sound (sym (ap (λ (l : List (Option Known)). is_tied (deltas_of part) l) read.known) ∙ apart),
-      record { head = subst (λ (h : Head). SaysHead h part) (sym head_is) says; slots = ap (λ (v : Vec (Option Known)). v.items) slots_is ∙ read.known },
+pub slots_tied : (head : Head) (deltas : ℕ) (part : List ℕ) (slots : Vec (Option Known)) → ReadBehind head deltas part (AllSound slots) → is_tied deltas slots.items ≡ true → first_found (slot_tests part) ≡ Some Tie
+slots_tied head deltas part slots is tied =
+    after_slots part (read_as head deltas part (AllSound slots) is).sound
+    ∙ first_test (is_tied (deltas_of part) (slots_of part)) Tie (stray_rows part) (known_slots head deltas part slots (λ d l. is_tied d l ≡ true) is tied)
+
+pub slots_stray : (head : Head) (deltas : ℕ) (part : List ℕ) (slots : Vec (Option Known)) (number : ℕ) → ReadBehind head deltas part (AllSound slots) → is_tied deltas slots.items ≡ false → IsFirstStray deltas slots.items (Some number)
+    → first_found (slot_tests part) ≡ Some (Slot number)
+unfolding stray_row
+slots_stray head deltas part slots number is apart stray =
+    let first = known_slots head deltas part slots (λ d l. IsFirstStray d l (Some number)) is stray in
+    after_slots part (read_as head deltas part (AllSound slots) is).sound
+    ∙ next_test (is_tied (deltas_of part) (slots_of part)) Tie (Slot number) (stray_rows part) (known_slots head deltas part slots (λ d l. is_tied d l ≡ false) is apart)
+    (row_found (λ k. stray_row part k) (count_of part) number first.0 first.1 first.2)
+
+pub slots_whole : (head : Head) (deltas : ℕ) (part : List ℕ) (slots : Vec (Option Known)) (outline : Outline) → ReadBehind head deltas part (AllSound slots) → is_tied deltas slots.items ≡ false → IsFirstStray deltas slots.items None
+    → outline.head ≡ head → outline.deltas ≡ deltas → outline.slots ≡ slots → Checks (Whole outline) (slot_tests part) part
+slots_whole head deltas part slots outline is apart harmless head_is deltas_is slots_is =
+    let read = read_as head deltas part (AllSound slots) is in (
+      slots_pass part read.sound (known_slots head deltas part slots (λ d l. is_tied d l ≡ false) is apart) (known_slots head deltas part slots (λ d l. IsFirstStray d l None) is harmless),
+      record {
+        head = subst (λ (h : Head). SaysHead h part) (sym head_is) is.says;
+        deltas = deltas_is ∙ is.deltas_is;
+        slots = ap (λ (v : Vec (Option Known)). v.items) slots_is ∙ read.known;
+      },
     )
 
--- what is known of a slot, by the lengths of problem and slot
+-- the number of records behind a base, as it was read
+pub no_deltas : (head : Head) (part : List ℕ) → SaysHead head part → (head.version ≡ 3 → ⊥) → AreDeltas (Some 0) part
+no_deltas head part says other =
+    let third : has_magic_3 part ≡ false = elim (cases_Bool (has_magic_3 part)) [
+      | inr none ↦ none
+      | inl is ↦ absurd (other (says.version_is ∙ ap version_by (eqb-true (long_at part 1) magic_3 is)))
+    ] in
+    (other_sound part third, sym (other_deltas part third))
+
+third_of : (head : Head) (part : List ℕ) → SaysHead head part → head.version ≡ 3 → has_magic_3 part ≡ true
+third_of head part says is = elim (cases_Bool (has_magic_3 part)) [
+  | inl third ↦ third
+  | inr other ↦ let wrong = other_version (long_at part 1) other in let three : version_by (long_at part 1) ≡ 3 = sym says.version_is ∙ is in absurd (no_three _ three wrong)
+]
+  where
+    no_three : (v : ℕ) → v ≡ 3 → (v == 3) ≡ false → ⊥
+    no_three v e none = grind (arith, nat_tests)
+
+pub deltas_told : (head : Head) (part byte : List ℕ) (n : ℕ) → SaysHead head part → head.version ≡ 3 → length byte ≡ 1 → IsRead part (21 + head.text) byte n → AreDeltas (deltas_read byte n) part
+deltas_told head part byte n says is wide read =
+    let third = third_of head part says is in
+    let at : 21 + head.text ≡ 21 + text_length part = omega (arith, says.text_is) in
+    let bad = bad_deltas part third in
+    elim (cases_Bool (nat_lt n 1)) [
+      | inl none ↦
+          let past : nat_le (length part) (21 + text_length part) ≡ true = le-leb (length part) (21 + text_length part) (omega (arith, read.count, wide, ltb-true n 1 none, says.text_is)) in
+          rw none (bad ∙ or_left _ _ (or_left _ _ past))
+      | inr some ↦
+          let here : 21 + text_length part < length part = omega (arith, read.count, wide, ltb-false n 1 some, says.text_is) in
+          let number : slice_index byte 0 ≡ deltas_of part = read.bytes 0 (omega (arith, ltb-false n 1 some)) ∙ ap (λ (k : ℕ). slice_index part k) (plus at) ∙ sym (third_deltas part third) in
+          elim (cases_Bool (slice_index byte 0 == 0)) [
+            | inl zeroth ↦ rw (some, zeroth) (bad ∙ or_left _ _ (or_right _ _ (ap (λ (k : ℕ). k == 0) (sym number) ∙ zeroth)))
+            | inr counted ↦ elim (cases_Bool (nat_lt 7 (slice_index byte 0))) [
+              | inl many ↦ rw (some, counted, many) (bad ∙ or_right _ _ (ap (λ (k : ℕ). nat_lt 7 k) (sym number) ∙ many))
+              | inr few ↦ rw (some, counted, few) (number_sound part record { here = here; some = ap (λ (k : ℕ). k == 0) (sym number) ∙ counted; few = omega (arith, number, ltb-false 7 (slice_index byte 0) few) }, number)
+            ]
+          ]
+    ]
+  where
+    plus : 21 + head.text ≡ 21 + text_length part → 21 + head.text + 0 ≡ 21 + text_length part
+    plus e = omega arith
+
+    bad_deltas : (part : List ℕ) → has_magic_3 part ≡ true → has_bad_deltas part ≡ (nat_le (length part) (21 + text_length part) || (deltas_of part == 0) || nat_lt 7 (deltas_of part))
+    bad_deltas part third = both (has_magic_3 part) _ third
+      where
+        both : (a b : Bool) → a ≡ true → (a && b) ≡ b
+        both true b e = refl
+        both false b e = let wrong : false ≡ true = e in cc
+
+-- what is known of a slot, by the lengths of what stands before the slots and of a slot
 abbrev known_at : List ℕ → ℕ → ℕ → ℕ → Option Known
-known_at part text size k = option_map slot_of (entry_at part (gate_at k text size))
+known_at part lead size k = option_map slot_of (entry_at part (gate_at k lead size))
 
 -- the slots that were read so far
-pub slots_none : (part : List ℕ) (text size : ℕ) → SlotsRead part text size 0 []
+pub slots_none : (part : List ℕ) (lead size : ℕ) → SlotsRead part lead size 0 []
 unfolding table
-slots_none part text size = record { sound = λ k lt. absurd (omega arith); known = refl }
+slots_none part lead size = record { sound = λ k lt. absurd (omega arith); known = refl }
 
-pub slots_more : (part : List ℕ) (text size k : ℕ) (slots : List (Option Known)) (slot : Option Known) → SlotsRead part text size k slots → IsSlot (Sound slot) part (gate_at k text size) size
-    → SlotsRead part text size (k + 1) (slots ++ slot ∷ [])
-slots_more part text size k slots slot read is = record {
+pub slots_more : (part : List ℕ) (lead size k : ℕ) (slots : List (Option Known)) (slot : Option Known) → SlotsRead part lead size k slots → IsSlot (Sound slot) part (gate_at k lead size) size
+    → SlotsRead part lead size (k + 1) (slots ++ slot ∷ [])
+slots_more part lead size k slots slot read is = record {
   sound = λ j lt. elim (cases_Bool (nat_lt j k)) [
     | inl early ↦ read.sound j (ltb-true j k early)
-    | inr last ↦ let here : j ≡ k = omega (arith, ltb-false j k last) in ap (λ (i : ℕ). is_broken part (gate_at i text size) size) here ∙ is.0
+    | inr last ↦ let here : j ≡ k = omega (arith, ltb-false j k last) in ap (λ (i : ℕ). is_broken part (gate_at i lead size) size) here ∙ is.0
   ];
-  known = ap (λ (l : List (Option Known)). l ++ slot ∷ []) read.known ∙ ap (λ (o : Option Known). table (known_at part text size) k ++ o ∷ []) is.1 ∙ sym (table_more (known_at part text size) k);
+  known = ap (λ (l : List (Option Known)). l ++ slot ∷ []) read.known ∙ ap (λ (o : Option Known). table (known_at part lead size) k ++ o ∷ []) is.1 ∙ sym (table_more (known_at part lead size) k);
 }
 
 -- the first that is broken
-pub slots_cut : (part : List ℕ) (text size n k : ℕ) (slots : List (Option Known)) → SlotsRead part text size k slots → k < n → is_broken part (gate_at k text size) size ≡ true → BrokenFirst part text size n k
-slots_cut part text size n k slots read within broken = record { within = within; before = read.sound; broken = broken }
+pub slots_cut : (part : List ℕ) (lead size n k : ℕ) (slots : List (Option Known)) → SlotsRead part lead size k slots → k < n → is_broken part (gate_at k lead size) size ≡ true → BrokenFirst part lead size n k
+slots_cut part lead size n k slots read within broken = record { within = within; before = read.sound; broken = broken }

@@ -5,10 +5,10 @@ use Rattle.std.proofs.lemmas.Bool.Decides.{nat_tests}
 use Rattle.std.proofs.lemmas.List.{get_or_append_left, get_or-append-add, get_or-set_same, get_or-set_other, set-get_or, length-set}
 use Rattle.std.proofs.Math.Nat.{add-mul}
 use Rattle.std.proofs.lemmas.Nat.{mul-le}
-use Rattle.std.specs.Prelude.{slice_index_or, slice_set, IfSome}
+use Rattle.std.specs.Prelude.{slice_index_or, slice_set, IfSome, replicate}
 use Rattle.amr_store.specs.declared.slot.Slot.{Slot}
 use Rattle.amr_store.specs.Layout.{gate_at}
-use Rattle.amr_store.specs.Table.{table, slot_count, slot_at, is_tie, is_latest, is_tied, next_base, latest_base, sequence_in, last_of}
+use Rattle.amr_store.specs.Table.{table, slot_count, slot_at, is_tie, is_latest, is_tied, next_base, latest_base, sequence_in, is_base}
 
 pub table_length : {T : Type 0} (f : ℕ → T) (n : ℕ) → length (table f n) ≡ n
 unfolding table
@@ -42,6 +42,16 @@ unfolding table
 table_same f g zero same = refl
 table_same f g (suc n) same = rw (table_same f g n (λ k lt. same k (omega arith)), same n (omega arith)) refl
 
+pushed : {T : Type 0} (x : T) (n : ℕ) → replicate n x ++ x ∷ [] ≡ replicate (suc n) x
+pushed x zero = refl
+pushed {T = T} x (suc n) = ap (λ (l : List T). x ∷ l) (pushed x n)
+
+-- one value throughout
+pub table_constant : {T : Type 0} (f : ℕ → T) (x : T) (n : ℕ) → ((k : ℕ) → k < n → f k ≡ x) → table f n ≡ replicate n x
+unfolding table
+table_constant f x zero none = refl
+table_constant {T = T} f x (suc n) none = ap (λ (l : List T). l ++ f n ∷ []) (table_constant f x n (λ k lt. none k (omega arith))) ∙ ap (λ (y : T). replicate n x ++ y ∷ []) (none n (omega arith)) ∙ pushed x n
+
 -- one value more
 pub table_more : {T : Type 0} (f : ℕ → T) (n : ℕ) → table f (n + 1) ≡ table f n ++ f n ∷ []
 unfolding table
@@ -74,13 +84,13 @@ table_set f g n k d within others =
     ]
 
 -- slots stand one after the other
-pub gates_apart : (j k text size : ℕ) → j < k → gate_at j text size + (17 + size) ≤ gate_at k text size
-gates_apart j k text size lt =
+pub gates_apart : (j k lead size : ℕ) → j < k → gate_at j lead size + (17 + size) ≤ gate_at k lead size
+gates_apart j k lead size lt =
     let product : (j + 1) * (17 + size) ≤ k * (17 + size) = mul-le (j + 1) (17 + size) k (17 + size) (omega arith) (omega arith) in
     omega (arith, product, add-mul j 1 (17 + size))
 
-pub gate_first : (k text size : ℕ) → 21 + text ≤ gate_at k text size
-gate_first k text size = omega arith
+pub gate_first : (k lead size : ℕ) → 21 + lead ≤ gate_at k lead size
+gate_first k lead size = omega arith
 
 -- which base is next, and which one holds the latest state
 record FirstNext (deltas : ℕ) (slots : List (Option Slot)) : Type 0 where
@@ -99,22 +109,10 @@ second_next : (deltas : ℕ) (slots : List (Option Slot)) → is_latest (slot_at
 unfolding next_base latest_base
 second_next deltas slots is = record { next = rw is refl; latest = rw is refl }
 
-pub next_within : (deltas : ℕ) (slots : List (Option Slot)) → next_base deltas slots < slot_count deltas
-next_within deltas slots = elim (cases_Bool (is_latest (slot_at slots 0) (slot_at slots (1 + deltas)))) [
-  | inl second ↦ omega (arith, (second_next deltas slots second).next)
-  | inr first ↦ omega (arith, (first_next deltas slots first).next)
-]
-
 pub latest_within : (deltas : ℕ) (slots : List (Option Slot)) → latest_base deltas slots < slot_count deltas
 latest_within deltas slots = elim (cases_Bool (is_latest (slot_at slots 0) (slot_at slots (1 + deltas)))) [
   | inl second ↦ omega (arith, (second_next deltas slots second).latest)
   | inr first ↦ omega (arith, (first_next deltas slots first).latest)
-]
-
-pub latest_is_other : (deltas : ℕ) (slots : List (Option Slot)) → latest_base deltas slots ≡ next_base deltas slots → ⊥
-latest_is_other deltas slots same = elim (cases_Bool (is_latest (slot_at slots 0) (slot_at slots (1 + deltas)))) [
-  | inl second ↦ omega (arith, same, (second_next deltas slots second).next, (second_next deltas slots second).latest)
-  | inr first ↦ omega (arith, same, (first_next deltas slots first).next, (first_next deltas slots first).latest)
 ]
 
 tied_is : (deltas : ℕ) (slots : List (Option Slot)) (a b : Option Slot) → slot_at slots 0 ≡ a → slot_at slots (1 + deltas) ≡ b → is_tie a b ≡ false → is_tied deltas slots ≡ false
@@ -146,35 +144,28 @@ above_second : (slot : Slot) (a : Option Slot) → IfSome (sequence_in a) (λ l.
 above_second slot None above = (refl, refl)
 above_second slot (Some a) above = (le-ltb slot.sequence a.sequence (omega (arith, above)), differ_back a.sequence slot.sequence above)
 
--- the base that is next was closed: all else is as it was
-pub record StillLatest (deltas : ℕ) (old new : List (Option Slot)) : Type 0 where
+-- the bases with the next one closed: which is next and which holds the latest state is as it was
+pub record BasesStay (deltas : ℕ) (old new : List (Option Slot)) : Type 0 where
   pub next : next_base deltas new ≡ next_base deltas old
   pub latest : latest_base deltas new ≡ latest_base deltas old
-  pub last : last_of deltas new ≡ last_of deltas old
   pub tie : is_tied deltas new ≡ false
 
--- the base that is next was opened, with a greater sequence
-pub record NowLatest (deltas : ℕ) (old new : List (Option Slot)) (slot : Slot) : Type 0 where
+-- the bases with the next one opened, with a greater sequence: it holds the latest state
+pub record BasesTurn (deltas : ℕ) (old new : List (Option Slot)) : Type 0 where
   pub latest : latest_base deltas new ≡ next_base deltas old
-  pub last : last_of deltas new ≡ Some slot.sequence
   pub tie : is_tied deltas new ≡ false
 
-same_last : (deltas : ℕ) (old new : List (Option Slot)) (k : ℕ) → latest_base deltas old ≡ k → latest_base deltas new ≡ k → slot_at new k ≡ slot_at old k → last_of deltas new ≡ last_of deltas old
-same_last deltas old new k was is same =
-    ap (λ (i : ℕ). sequence_in (slot_at new i)) is ∙ ap sequence_in same ∙ sym (ap (λ (i : ℕ). sequence_in (slot_at old i)) was)
-
-pub next_closed : (deltas : ℕ) (slots : List (Option Slot)) → length slots ≡ slot_count deltas → StillLatest deltas slots (slice_set slots (next_base deltas slots) None)
-next_closed deltas slots count = elim (cases_Bool (is_latest (slot_at slots 0) (slot_at slots (1 + deltas)))) [
+pub bases_closed : (deltas : ℕ) (slots : List (Option Slot)) → length slots ≡ slot_count deltas → BasesStay deltas slots (slice_set slots (next_base deltas slots) None)
+bases_closed deltas slots count = elim (cases_Bool (is_latest (slot_at slots 0) (slot_at slots (1 + deltas)))) [
   | inr first ↦
       let was = first_next deltas slots first in
       let new = slice_set slots 0 None in
       let one : slot_at new 0 ≡ None = get_or-set_same slots 0 None None (omega (arith, count)) in
       let two : slot_at new (1 + deltas) ≡ slot_at slots (1 + deltas) = get_or-set_other slots 0 (1 + deltas) None None (λ e. omega (arith, e)) in
       let is = first_next deltas new (latest_is deltas new None (slot_at slots (1 + deltas)) false one two refl) in
-      subst (λ (k : ℕ). StillLatest deltas slots (slice_set slots k None)) (sym was.next) record {
+      subst (λ (k : ℕ). BasesStay deltas slots (slice_set slots k None)) (sym was.next) record {
         next = is.next ∙ sym was.next;
         latest = is.latest ∙ sym was.latest;
-        last = same_last deltas slots new (1 + deltas) was.latest is.latest two;
         tie = tied_is deltas new None (slot_at slots (1 + deltas)) one two refl;
       }
   | inl second ↦
@@ -183,17 +174,16 @@ next_closed deltas slots count = elim (cases_Bool (is_latest (slot_at slots 0) (
       let one : slot_at new 0 ≡ slot_at slots 0 = get_or-set_other slots (1 + deltas) 0 None None (λ e. omega (arith, e)) in
       let two : slot_at new (1 + deltas) ≡ None = get_or-set_same slots (1 + deltas) None None (omega (arith, count)) in
       let is = second_next deltas new (latest_is deltas new (slot_at slots 0) None true one two (still_first (slot_at slots 0) (slot_at slots (1 + deltas)) second)) in
-      subst (λ (k : ℕ). StillLatest deltas slots (slice_set slots k None)) (sym was.next) record {
+      subst (λ (k : ℕ). BasesStay deltas slots (slice_set slots k None)) (sym was.next) record {
         next = is.next ∙ sym was.next;
         latest = is.latest ∙ sym was.latest;
-        last = same_last deltas slots new 0 was.latest is.latest one;
         tie = tied_is deltas new (slot_at slots 0) None one two (no_tie_none (slot_at slots 0));
       }
 ]
 
-pub next_opened : (deltas : ℕ) (slots : List (Option Slot)) (slot : Slot) → length slots ≡ slot_count deltas → IfSome (last_of deltas slots) (λ l. l < slot.sequence)
-    → NowLatest deltas slots (slice_set slots (next_base deltas slots) (Some slot)) slot
-next_opened deltas slots slot count above = elim (cases_Bool (is_latest (slot_at slots 0) (slot_at slots (1 + deltas)))) [
+pub bases_opened : (deltas : ℕ) (slots : List (Option Slot)) (slot : Slot) → length slots ≡ slot_count deltas → IfSome (sequence_in (slot_at slots (latest_base deltas slots))) (λ l. l < slot.sequence)
+    → BasesTurn deltas slots (slice_set slots (next_base deltas slots) (Some slot))
+bases_opened deltas slots slot count above = elim (cases_Bool (is_latest (slot_at slots 0) (slot_at slots (1 + deltas)))) [
   | inr first ↦
       let was = first_next deltas slots first in
       let new = slice_set slots 0 (Some slot) in
@@ -201,9 +191,8 @@ next_opened deltas slots slot count above = elim (cases_Bool (is_latest (slot_at
       let two : slot_at new (1 + deltas) ≡ slot_at slots (1 + deltas) = get_or-set_other slots 0 (1 + deltas) (Some slot) None (λ e. omega (arith, e)) in
       let tops = above_first slot (slot_at slots (1 + deltas)) (subst Above was.latest above) in
       let is = second_next deltas new (latest_is deltas new (Some slot) (slot_at slots (1 + deltas)) true one two tops.0) in
-      subst (λ (k : ℕ). NowLatest deltas slots (slice_set slots k (Some slot)) slot) (sym was.next) record {
+      subst (λ (k : ℕ). BasesTurn deltas slots (slice_set slots k (Some slot))) (sym was.next) record {
         latest = is.latest ∙ sym was.next;
-        last = ap (λ (i : ℕ). sequence_in (slot_at new i)) is.latest ∙ ap sequence_in one;
         tie = tied_is deltas new (Some slot) (slot_at slots (1 + deltas)) one two tops.1;
       }
   | inl second ↦
@@ -213,9 +202,8 @@ next_opened deltas slots slot count above = elim (cases_Bool (is_latest (slot_at
       let two : slot_at new (1 + deltas) ≡ Some slot = get_or-set_same slots (1 + deltas) (Some slot) None (omega (arith, count)) in
       let tops = above_second slot (slot_at slots 0) (subst Above was.latest above) in
       let is = first_next deltas new (latest_is deltas new (slot_at slots 0) (Some slot) false one two tops.0) in
-      subst (λ (k : ℕ). NowLatest deltas slots (slice_set slots k (Some slot)) slot) (sym was.next) record {
+      subst (λ (k : ℕ). BasesTurn deltas slots (slice_set slots k (Some slot))) (sym was.next) record {
         latest = is.latest ∙ sym was.next;
-        last = ap (λ (i : ℕ). sequence_in (slot_at new i)) is.latest ∙ ap sequence_in two;
         tie = tied_is deltas new (slot_at slots 0) (Some slot) one two tops.1;
       }
 ]
@@ -223,10 +211,59 @@ next_opened deltas slots slot count above = elim (cases_Bool (is_latest (slot_at
     Above : ℕ → Type 0
     Above k = IfSome (sequence_in (slot_at slots k)) (λ l. l < slot.sequence)
 
--- the first base alone is open
-pub last_alone : (slot : Slot) → last_of 0 (Some slot ∷ None ∷ []) ≡ Some slot.sequence
-unfolding latest_base
-last_alone slot = refl
+-- the two bases: where the slots of the one that is next stand, and those of the other
+pub record TwoBases (deltas : ℕ) (slots : List (Option Slot)) : Type 0 where
+  pub within : next_base deltas slots < slot_count deltas
+  pub latest_within : latest_base deltas slots + deltas < slot_count deltas
+  pub apart : (i : ℕ) → i ≤ deltas → latest_base deltas slots + i ≡ next_base deltas slots → ⊥
+  pub inside : (i : ℕ) → 0 < i → i ≤ deltas → latest_base deltas slots + i ≡ 1 + deltas → ⊥
+  pub behind : (deltas ≡ 0 → ⊥) → (is_base deltas (next_base deltas slots + 1) ≡ false) × (next_base deltas slots + 1 < slot_count deltas)
+  pub base : is_base deltas (next_base deltas slots) ≡ false → ⊥
+
+pub next_or_latest : (deltas : ℕ) (slots : List (Option Slot)) → TwoBases deltas slots
+next_or_latest deltas slots = elim (cases_Bool (is_latest (slot_at slots 0) (slot_at slots (1 + deltas)))) [
+  | inr first ↦ let is = first_next deltas slots first in record {
+    within = omega (arith, is.next);
+    latest_within = omega (arith, is.latest);
+    apart = λ i le e. omega (arith, is.next, is.latest, e);
+    inside = λ i some le e. omega (arith, is.latest, e, some);
+    behind = λ few. (ap (λ (k : ℕ). is_base deltas (k + 1)) is.next ∙ one few, omega (arith, is.next, few));
+    base = λ none. zero_base (sym (ap (λ (k : ℕ). is_base deltas k) is.next) ∙ none);
+  }
+  | inl second ↦ let is = second_next deltas slots second in record {
+    within = omega (arith, is.next);
+    latest_within = omega (arith, is.latest);
+    apart = λ i le e. omega (arith, is.next, is.latest, e, le);
+    inside = λ i some le e. omega (arith, is.latest, e, le);
+    behind = λ few. (ap (λ (k : ℕ). is_base deltas (k + 1)) is.next ∙ two, more is.next few);
+    base = λ none. one_base (sym (ap (λ (k : ℕ). is_base deltas k) is.next) ∙ none);
+  }
+]
+  where
+    one : (deltas ≡ 0 → ⊥) → is_base deltas 1 ≡ false
+    one few = grind (arith, nat_tests)
+
+    two : is_base deltas (1 + deltas + 1) ≡ false
+    two = grind (arith, nat_tests)
+
+    more : next_base deltas slots ≡ 1 + deltas → (deltas ≡ 0 → ⊥) → next_base deltas slots + 1 < slot_count deltas
+    more is few = omega (arith, is, few)
+
+    zero_base : is_base deltas 0 ≡ false → ⊥
+    zero_base none = let wrong : true ≡ false = none in absurd (cc)
+
+    one_base : is_base deltas (1 + deltas) ≡ false → ⊥
+    one_base none = grind (arith, nat_tests)
+
+-- the bases stay
+pub record SameBases (deltas : ℕ) (old new : List (Option Slot)) : Type 0 where
+  pub next : next_base deltas new ≡ next_base deltas old
+  pub latest : latest_base deltas new ≡ latest_base deltas old
+  pub tie : is_tied deltas new ≡ is_tied deltas old
+
+pub bases_same : (deltas : ℕ) (old new : List (Option Slot)) → slot_at new 0 ≡ slot_at old 0 → slot_at new (1 + deltas) ≡ slot_at old (1 + deltas) → SameBases deltas old new
+unfolding next_base latest_base is_tied
+bases_same deltas old new e f = record { next = rw (e, f) refl; latest = rw (e, f) refl; tie = rw (e, f) refl }
 
 -- a slot is set to what it was
 pub set_same : (slots : List (Option Slot)) (k : ℕ) (slot : Option Slot) → slot ≡ slot_at slots k → slice_set slots k slot ≡ slots

@@ -11,6 +11,10 @@ use Rattle.amr_store.specs.Stored.{IsFilled}
 use Rattle.amr_store.specs.Layout.{long_at}
 use Rattle.amr_store.proofs.Places.{same_lists}
 
+-- the length of a range
+pub range_length : (xs : List ℕ) (a n : ℕ) → a + n ≤ length xs → length (slice_range xs a (a + n)) ≡ n
+range_length xs a n within = grind (arith, common_steps)
+
 front_length : (gap at : ℕ) (old : List ℕ) → length (take at old ++ replicate (at - length old) gap) ≡ at
 front_length gap at old = grind (arith, common_steps)
 
@@ -52,6 +56,10 @@ range_is image a bytes whole same =
     let size : length (slice_range image a (a + length bytes)) ≡ length bytes = grind (arith, common_steps) in
     same_lists (slice_range image a (a + length bytes)) bytes size
     (λ i lt. get_or-take (a + length bytes - a) (drop a image) i 0 (omega arith) ∙ get_or-drop a image i 0 ∙ same i lt)
+
+-- what stands in a range
+pub range_index : (image : List ℕ) (a m i : ℕ) → i < m → a + m ≤ length image → slice_index (slice_range image a (a + m)) i ≡ slice_index image (a + i)
+range_index image a m i lt within = get_or-take (a + m - a) (drop a image) i 0 (omega arith) ∙ get_or-drop a image i 0
 
 -- the head of a slot: its sequence and the length of its payload
 pub record IsSlotHead (head : List ℕ) (sequence count : ℕ) : Type 0 where

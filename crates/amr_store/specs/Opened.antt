@@ -37,9 +37,9 @@ IsUnshut (Damaged part) = ⊤
 -- a store at a base, as its outline says
 pub record IsStoreAtBase (base : ℕ) (inner : Outline) (store : Store) : Type 0 where
   pub base_is : base_in store ≡ base
-  pub version : version_in store ≡ 2
+  pub version : version_in store ≡ inner.head.version
   pub slot_size : slot_size_in store ≡ inner.head.slot_size
-  pub deltas : deltas_in store ≡ 0
+  pub deltas : deltas_in store ≡ inner.deltas
   pub slots : slots_in store ≡ inner.slots.items
 
 -- the new store of a renewed one, where it holds the old problem

@@ -5,12 +5,12 @@ use Rattle.std.specs.Int.{to_le_bytes, w64}
 use Rattle.amr_disk.specs.Image.{written_at}
 use Rattle.amr_store.specs.Created.{head_bytes}
 use Rattle.amr_store.specs.Layout.{magic_2, long_at, word_at, size_of, problem_of, gate_at}
-use Rattle.amr_store.specs.Stored.{State, Held, Reads, IsFilled, has_magic_1, is_open, is_renewed, end_in, state_of, slot_of, slots_of, stored}
+use Rattle.amr_store.specs.Stored.{State, Held, Reads, IsFilled, has_magic_1, is_open, is_renewed, end_in, state_of, slot_of, deltas_of, slots_of, stored}
 
 -- what a renewed store shows
 abbrev pub renewed_state : List ℕ → ℕ → ℕ → List ℕ → State
 renewed_state problem size sequence payload =
-    record { version = 2; problem = problem; slot_size = size; latest = Some record { sequence = sequence; payload = payload } }
+    record { version = 2; problem = problem; slot_size = size; deltas = 0; latest = Some record { sequence = sequence; payload = payload }; records = [] }
 
 -- all of a store of version 2 behind its gate, up to its second slot, with a state in its first slot
 abbrev pub renewal_bytes : List ℕ → ℕ → ℕ → List ℕ → List ℕ
@@ -45,6 +45,7 @@ pub record IsRenewal (problem : List ℕ) (size sequence : ℕ) (payload part : 
 pub record IsRenewed (end : ℕ) (problem : List ℕ) (size sequence : ℕ) (payload image : List ℕ) : Type 0 where
   pub reads : Reads image end
   pub version_is : (state_of (drop end image)).version ≡ 2
+  pub deltas_is : deltas_of (drop end image) ≡ 0
   pub problem_is : problem_of (drop end image) ≡ problem
   pub size_is : size_of (drop end image) ≡ size
   pub slots_is : slots_of (drop end image) ≡ Some (slot_of record { sequence = sequence; payload = payload }) ∷ None ∷ []

@@ -1,14 +1,14 @@
 -- A store in memory, and the image that it stands for. (profile)
-use Rattle.std.specs.Prelude.{ℕ, ◌≡◌, ◌<◌, ◌+◌, Bool, true, false, List, [], ◌∷◌, ◌++◌, length, drop, Option, Some, None}
+use Rattle.std.specs.Prelude.{ℕ, ◌≡◌, ◌<◌, ◌+◌, ◌⊎◌, Bool, true, false, List, [], ◌∷◌, ◌++◌, length, drop, Option, Some, None, IfSome, IsSome}
 use Rattle.std.specs.Int.{to_le_bytes, w64}
 use Rattle.amr_disk.specs.Image.{Only, written_at}
 use Rattle.amr_store.specs.declared.put.Closed.{Closed}
 use Rattle.amr_store.specs.declared.put.Filled.{Filled}
 use Rattle.amr_store.specs.declared.slot.Slot.{Slot}
 use Rattle.amr_store.specs.declared.store.Store.{Store}
-use Rattle.amr_store.specs.Layout.{size_of, problem_of, gate_at}
-use Rattle.amr_store.specs.Stored.{Reads, IsFilled, state_of, slot_of, deltas_of, slots_of}
-use Rattle.amr_store.specs.Table.{slot_count, slot_at, next_base, latest_base, last_of}
+use Rattle.amr_store.specs.Layout.{size_of, problem_of, lead_length, gate_at}
+use Rattle.amr_store.specs.Stored.{Reads, IsFilled, front_in, state_of, slot_of, deltas_of, slots_of}
+use Rattle.amr_store.specs.Table.{slot_count, slot_at, next_base, latest_base, sequence_in, is_base, chain_of, last_slot, last_of, HasRoomFor}
 
 abbrev pub is_shut : Store → Bool
 is_shut store = store.is_shut
@@ -38,19 +38,32 @@ slots_in store = store.slots.items
 abbrev pub slot_in : Store → ℕ → Option Slot
 slot_in store k = slot_at (slots_in store) k
 
--- the greatest sequence of a base
+-- how many records count, and the last sequence that does
+abbrev pub chain_in : Store → ℕ
+chain_in store = chain_of (deltas_in store) (slots_in store)
+
 abbrev pub last_in : Store → Option ℕ
 last_in store = last_of (deltas_in store) (slots_in store)
 
--- the slot that the next put fills, the one that holds the latest state, and the place of a slot's gate on the disk
+-- the sequence of the latest whole state, at number 0, and of the record of this number that counts
+abbrev pub counted_in : Store → ℕ → Option ℕ
+counted_in store number = sequence_in (slot_in store (latest_base (deltas_in store) (slots_in store) + number))
+
+-- the slot that the next put fills, the one that holds the latest whole state, the slot of the next record, and the place of a slot's gate on the disk
 abbrev pub next_in : Store → ℕ
 next_in store = next_base (deltas_in store) (slots_in store)
 
 abbrev pub latest_slot_in : Store → ℕ
 latest_slot_in store = latest_base (deltas_in store) (slots_in store)
 
+abbrev pub next_record_in : Store → ℕ
+next_record_in store = last_slot (deltas_in store) (slots_in store) + 1
+
+abbrev pub lead_in : Store → ℕ
+lead_in store = lead_length (version_in store) (length (problem_in store))
+
 abbrev pub gate_in : Store → ℕ → ℕ
-gate_in store k = base_in store + gate_at k (length (problem_in store)) (slot_size_in store)
+gate_in store k = base_in store + gate_at k (lead_in store) (slot_size_in store)
 
 -- the store stands for the image: the image reads as a sound store, and what is known of it in memory is so
 pub record Stands (store : Store) (image : List ℕ) : Type 0 where
@@ -71,8 +84,8 @@ abbrev pub closing_chunk : Option Slot → List ℕ
 closing_chunk None = []
 closing_chunk (Some slot) = 0 ∷ []
 
-abbrev pub closed_image : Store → List ℕ → List ℕ
-closed_image store image = written_at (gate_in store (next_in store)) (closing_chunk (slot_in store (next_in store))) image
+abbrev pub closed_image : Store → ℕ → List ℕ → List ℕ
+closed_image store which image = written_at (gate_in store which) (closing_chunk (slot_in store which)) image
 
 abbrev pub filled_image : Store → ℕ → ℕ → List ℕ → List ℕ → List ℕ
 filled_image store which sequence payload image =
@@ -82,8 +95,14 @@ abbrev pub opened_image : Store → ℕ → List ℕ → List ℕ
 opened_image store which image = written_at (gate_in store which) (165 ∷ []) image
 
 -- the bytes that a put writes, and no other: its three steps in turn
+abbrev pub slot_image : Store → ℕ → ℕ → List ℕ → List ℕ → List ℕ
+slot_image store which sequence payload image = opened_image store which (filled_image store which sequence payload (closed_image store which image))
+
 abbrev pub put_image : Store → ℕ → List ℕ → List ℕ → List ℕ
-put_image store sequence payload image = opened_image store (next_in store) (filled_image store (next_in store) sequence payload (closed_image store image))
+put_image store = slot_image store (next_in store)
+
+abbrev pub record_image : Store → ℕ → List ℕ → List ℕ → List ℕ
+record_image store = slot_image store (next_record_in store)
 
 -- the slot that a step of a put closed or filled, and what it was filled with
 abbrev pub slot_closed : Closed → ℕ
@@ -94,6 +113,9 @@ slot_filled filled = filled.which
 
 abbrev pub sequence_filled : Filled → ℕ
 sequence_filled filled = filled.slot.sequence
+
+abbrev pub front_filled : Filled → Option ℕ
+front_filled filled = filled.slot.front
 
 abbrev pub length_filled : Filled → ℕ
 length_filled filled = filled.slot.length
@@ -106,16 +128,45 @@ opened_slot filled = Some filled.slot
 abbrev pub put_slot : ℕ → List ℕ → Option Slot
 put_slot sequence payload = Some (slot_of record { sequence = sequence; payload = payload })
 
--- the slot that is next is closed, in memory
+-- a store that is not shut: of this version, with this problem, slots of this size, and so many records behind a base
+pub record IsStoreOf (version : ℕ) (problem : List ℕ) (size deltas : ℕ) (store : Store) : Type 0 where
+  pub version_is : version_in store ≡ version
+  pub problem_is : problem_in store ≡ problem
+  pub size_is : slot_size_in store ≡ size
+  pub deltas_is : deltas_in store ≡ deltas
+  pub unshut : is_shut store ≡ false
+
+-- the slot that is next: that of the next base, or that of the next record where there is room for one
+abbrev pub IsNext : ℕ → Store → Type 0
+IsNext which store = (which ≡ next_in store) ⊎ HasRoomFor (deltas_in store) (slots_in store) which
+
+-- it is closed, in memory
 pub record IsClosed (which : ℕ) (store : Store) : Type 0 where
-  pub next : which ≡ next_in store
+  pub next : IsNext which store
   pub within : which < slot_count (deltas_in store)
   pub none : slot_in store which ≡ None
+
+-- what may stand in the slot that is next: anything in a base, and in the slot of a record what begins with the last sequence
+pub record MayStand (which : ℕ) (store : Store) (sequence : ℕ) (front : Option ℕ) : Type 0 where
+  pub above : IfSome (last_in store) (λ last. last < sequence)
+  pub on_last : is_base (deltas_in store) which ≡ false → (last : ℕ) × (last_in store ≡ Some last) × (front ≡ Some last)
 
 -- a slot of the store is filled with this, behind its gate
 abbrev pub IsFilledIn : ℕ → Store → List ℕ → ℕ → List ℕ → Type 0
 IsFilledIn which store image sequence payload =
-    IsFilled (drop (base_in store) image) (gate_at which (length (problem_in store)) (slot_size_in store)) (slot_size_in store) sequence payload
+    IsFilled (drop (base_in store) image) (gate_at which (lead_in store) (slot_size_in store)) (slot_size_in store) sequence payload
+
+-- a filled slot holds this payload, behind its gate
+pub record HoldsFilled (filled : Filled) (store : Store) (image payload : List ℕ) : Type 0 where
+  pub length_is : length payload ≡ length_filled filled
+  pub front_is : front_in payload ≡ front_filled filled
+  pub holds : IsFilledIn (slot_filled filled) store image (sequence_filled filled) payload
+
+-- a record on the last sequence, where there is one
+pub record IsOnLast (last : Option ℕ) (sequence : ℕ) (payload : List ℕ) : Type 0 where
+  pub some : IsSome last
+  pub above : IfSome last (λ l. l < sequence)
+  pub begins : front_in payload ≡ last
 
 -- what a put and each of its steps leave as it was
 pub record SameStore (old new : Store) : Type 0 where

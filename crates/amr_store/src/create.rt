@@ -7,7 +7,7 @@ ghost use Rattle.amr_store.specs.Created.{EmptyOrNew, IsVersion, IsShutFirst, Is
 ghost use Rattle.amr_store.specs.Created.{new_state, shut_first, laid_image, created_image};
 ghost use Rattle.amr_store.specs.Phases.{OnlyReads, StopsFrom, Told};
 ghost use Rattle.amr_store.specs.Reasons.{HasReason, is_no_memory, is_shut_fault};
-ghost use Rattle.amr_store.specs.Stands.{IsStoreReady, is_shut, version_in, problem_in, slot_size_in, last_in};
+ghost use Rattle.amr_store.specs.Stands.{IsStoreOf, IsStoreReady, last_in};
 ghost use Rattle.amr_store.specs.Stored.{stored, is_empty, Empty, Held};
 
 use crate::device::{Write, has_byte, write_synced, write_three_synced, write_two_synced};
@@ -18,27 +18,34 @@ use crate::store::Store;
 use amr_disk::{Disk, DiskFault};
 use std::alloc::{AllocError, Global};
 
-// The bytes AMRSTOR1 and AMRSTOR2, as numbers.
+// The bytes AMRSTOR1, AMRSTOR2 and AMRSTOR3, as numbers.
 pub const MAGIC_1: u64 = 0x3152_4f54_5352_4d41;
 
 pub const MAGIC_2: u64 = 0x3252_4f54_5352_4d41;
+
+pub const MAGIC_3: u64 = 0x3352_4f54_5352_4d41;
 
 // The magic of a version.
 fn magic_of(version: u32) -> u64
     ensures { result ≡ magic_of version }
 {
-    if version == 1 { MAGIC_1 } else { MAGIC_2 }
+    match version {
+        1 => MAGIC_1,
+        3 => MAGIC_3,
+        _ => MAGIC_2,
+    }
 }
 
-// The head of a store behind its gate, its problem, and the closed gate of its first slot.
-fn head_of(
+// The head of a store behind its gate, its problem, and the byte behind it.
+pub fn head_of(
     alloc: Global,
     version: u32,
     problem: &[u8],
     slot_size: u64,
+    last: u8,
 ) -> Result<Vec<u8>, AllocError>
     requires text { length problem.now ≤ 65536 }
-    ensures bytes { IfOk result (λ v. v.items ≡ head_bytes 0 version problem.now slot_size) }
+    ensures bytes { IfOk result (λ v. v.items ≡ head_bytes last version problem.now slot_size) }
     ensures count { IfOk result (λ v. vec_len v ≡ 21 + length problem.now) }
 {
     let mut head = Vec::new(alloc);
@@ -46,12 +53,12 @@ fn head_of(
     head.extend_from_slice(&slot_size.to_le_bytes())?;
     head.extend_from_slice(&(problem.len() as u32).to_le_bytes())?;
     head.extend_from_slice(problem)?;
-    head.push(0)?;
+    head.push(last)?;
     Ok(head)
 }
 
 // So many closed slots.
-fn closed_slots(alloc: Global, count: usize) -> Result<Vec<Option<Slot>>, AllocError>
+pub fn closed_slots(alloc: Global, count: usize) -> Result<Vec<Option<Slot>>, AllocError>
     ensures slots { IfOk result (λ v. v.items ≡ replicate count None) }
     ensures count { IfOk result (λ v. vec_len v ≡ count) }
 {
@@ -69,7 +76,7 @@ pub fn copy_of(alloc: Global, bytes: &[u8]) -> Result<Vec<u8>, AllocError>
 }
 
 // Closes the first byte, where it is not closed already.
-fn close_first<D: Disk>(disk: &mut D) -> Result<(), DiskFault>
+pub fn close_first<D: Disk>(disk: &mut D) -> Result<(), DiskFault>
     requires settled { Only (D.seen disk.old) (D.leaves disk.old (D.moment disk.old)) }
     requires empty { (s : List ℕ) → D.seen disk.old ≡ Some s → is_empty s ≡ true }
     ensures shut { OnOk result ((t : List ℕ) → D.seen disk.new ≡ Some t → IsShutFirst t) }
@@ -117,7 +124,7 @@ fn lay<D: Disk>(
     requires head { head.now ≡ head_bytes 0 version problem.now slot_size }
     requires settled { Only (D.seen disk.old) (D.leaves disk.old (D.moment disk.old)) }
     ensures seen { OnOk result (D.seen disk.new ≡ option_map (laid_image version problem.now slot_size) (D.seen disk.old)) }
-    ensures laid { OnOk result ((t : List ℕ) → D.seen disk.new ≡ Some t → IsLaid version problem.now slot_size t) }
+    ensures laid { OnOk result ((t : List ℕ) → D.seen disk.new ≡ Some t → IsLaid version 0 problem.now slot_size t) }
     ensures told { OnOk result ((s : List ℕ) → D.seen disk.old ≡ Some s → IsSome (D.seen disk.new)) }
     ensures stops { StopsFrom D.seen D.moment D.leaves disk.old disk.new (λ s c. IsShutFirst s → IsShutFirst c) }
     ensures settled { OnOk result (Only (D.seen disk.new) (D.leaves disk.new (D.moment disk.new))) }
@@ -161,7 +168,7 @@ fn write_store<D: Disk>(
     requires settled { Only (D.seen disk.old) (D.leaves disk.old (D.moment disk.old)) }
     requires empty { (s : List ℕ) → D.seen disk.old ≡ Some s → is_empty s ≡ true }
     ensures seen { OnOk result (D.seen disk.new ≡ option_map (created_image version problem.now slot_size) (D.seen disk.old)) }
-    ensures made { OnOk result ((t : List ℕ) → D.seen disk.new ≡ Some t → IsMade version problem.now slot_size t) }
+    ensures made { OnOk result ((t : List ℕ) → D.seen disk.new ≡ Some t → IsMade version 0 problem.now slot_size t) }
     ensures stops { StopsFrom D.seen D.moment D.leaves disk.old disk.new (EmptyOrNew version problem.now slot_size) }
     ensures settled { OnOk result (Only (D.seen disk.new) (D.leaves disk.new (D.moment disk.new))) }
     ensures cause { HasCause (D.faults disk.old) (D.faults disk.new) result }
@@ -192,11 +199,8 @@ impl Store {
         requires settled { Only (D.seen disk.old) (D.leaves disk.old (D.moment disk.old)) }
         requires empty { (s : List ℕ) → D.seen disk.old ≡ Some s → stored s ≡ Empty }
         ensures ready { IfOk result (λ store. IsStoreReady D.seen D.moment D.leaves store disk.new) }
-        ensures problem { IfOk result (λ store. problem_in store ≡ problem.now) }
-        ensures size { IfOk result (λ store. slot_size_in store ≡ slot_size) }
-        ensures version { IfOk result (λ store. version_in store ≡ version) }
+        ensures store { IfOk result (IsStoreOf version problem.now slot_size 0) }
         ensures last { IfOk result (λ store. last_in store ≡ None) }
-        ensures unshut_store { IfOk result (λ store. is_shut store ≡ false) }
         ensures seen { OnOk result (D.seen disk.new ≡ option_map (created_image version problem.now slot_size) (D.seen disk.old)) }
         ensures made { OnOk result ((t : List ℕ) → D.seen disk.new ≡ Some t → stored t ≡ Held (new_state version problem.now slot_size)) }
         ensures stops { StopsFrom D.seen D.moment D.leaves disk.old disk.new (EmptyOrNew version problem.now slot_size) }
@@ -204,7 +208,7 @@ impl Store {
         ensures reason { HasReason (D.faults disk.old) (D.faults disk.new) result }
         ensures unshut { is_shut_fault result ≡ false }
     {
-        let head = head_of(alloc, version, problem, slot_size)?;
+        let head = head_of(alloc, version, problem, slot_size, 0)?;
         let kept = copy_of(alloc, problem)?;
         let slots = closed_slots(alloc, 2)?;
         match write_store(disk, version, problem, slot_size, &head) {

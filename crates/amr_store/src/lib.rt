@@ -1,9 +1,10 @@
-//! A checkpoint store over a disk: one problem and two slots, written in turn. A stop within any write leaves the last
-//! state put, or the one being written.
+//! A checkpoint store over a disk: one problem and two slots for whole states, written in turn, in version 3 each with records
+//! behind it. A stop within any write leaves the last state put, or the one being written.
 #![tactic(auto)]
 
 mod check;
 mod create;
+mod create3;
 mod device;
 mod found;
 mod latest;

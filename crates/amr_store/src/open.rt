@@ -8,6 +8,7 @@ ghost use Rattle.amr_store.specs.Phases.{OnlyReads, Told};
 ghost use Rattle.amr_store.specs.Reading.{SaysHead};
 ghost use Rattle.amr_store.specs.Reasons.{HasReason, is_disk_fault, is_no_memory, is_shut_fault};
 ghost use Rattle.amr_store.specs.Stored.{stored, is_empty, is_renewed};
+ghost use Rattle.amr_store.specs.Table.{slot_count, AreSound, IsNumbered};
 
 use crate::check::{Checked, Outline, check};
 use crate::device::{has_open_gate, read_from};
@@ -57,7 +58,9 @@ pub fn read_bytes<D: Disk>(
 fn open_plain<D: Disk>(alloc: Global, disk: &mut D, outline: Outline) -> Result<Found, StoreFault>
     requires text { outline.head.text ≤ 65536 }
     requires size { outline.head.slot_size ≤ 2 ^ 40 }
-    requires slots { vec_len outline.slots ≡ 2 }
+    requires numbered { IsNumbered outline.head.version outline.deltas }
+    requires slots { vec_len outline.slots ≡ slot_count outline.deltas }
+    requires sound { AreSound outline.deltas outline.slots.items }
     ensures told { IfOk result (λ found. Told (D.seen disk.old)
         (λ s. IsHeldBy outline.head s → IsOutline outline s → is_renewed s ≡ false → FindsIn found s)) }
     ensures open { IfOk result IsUnshut }
@@ -71,7 +74,7 @@ fn open_plain<D: Disk>(alloc: Global, disk: &mut D, outline: Outline) -> Result<
             base: 0,
             problem,
             slot_size: outline.head.slot_size,
-            deltas: 0,
+            deltas: outline.deltas,
             slots: outline.slots,
             is_shut: false,
         })),
@@ -84,17 +87,19 @@ fn same_problem(base: u64, inner: Outline, problem: Vec<u8>, old: &[u8]) -> Foun
     requires base { base ≤ 2 ^ 43 }
     requires text { vec_len problem ≤ 65536 }
     requires size { inner.head.slot_size ≤ 2 ^ 40 }
-    requires slots { vec_len inner.slots ≡ 2 }
+    requires numbered { IsNumbered inner.head.version inner.deltas }
+    requires slots { vec_len inner.slots ≡ slot_count inner.deltas }
+    requires sound { AreSound inner.deltas inner.slots.items }
     ensures told { IsRenewedFound base inner problem.items old.now result }
     ensures open { IsUnshut result }
 {
     if problem.as_slice() == old {
         Found::Ready(Store {
-            version: 2,
+            version: inner.head.version,
             base,
             problem,
             slot_size: inner.head.slot_size,
-            deltas: 0,
+            deltas: inner.deltas,
             slots: inner.slots,
             is_shut: false,
         })
@@ -115,7 +120,9 @@ fn open_inner<D: Disk>(
     requires base { base ≤ 2 ^ 43 }
     requires inner_text { inner.head.text ≤ 65536 }
     requires inner_size { inner.head.slot_size ≤ 2 ^ 40 }
-    requires inner_slots { vec_len inner.slots ≡ 2 }
+    requires numbered { IsNumbered inner.head.version inner.deltas }
+    requires inner_slots { vec_len inner.slots ≡ slot_count inner.deltas }
+    requires sound { AreSound inner.deltas inner.slots.items }
     ensures told { IfOk result (λ found. Told (D.seen disk.old) (λ s. IsRenewedAt text base s → IsInner inner (drop base s) → FindsIn found s)) }
     ensures open { IfOk result IsUnshut }
     ensures reads { OnlyReads D.seen D.moment D.leaves disk.old disk.new }
@@ -168,7 +175,9 @@ fn was_renewed<D: Disk>(disk: &mut D, head: Head) -> Result<bool, DiskFault>
 fn open_whole<D: Disk>(alloc: Global, disk: &mut D, outline: Outline) -> Result<Found, StoreFault>
     requires text { outline.head.text ≤ 65536 }
     requires size { outline.head.slot_size ≤ 2 ^ 40 }
-    requires slots { vec_len outline.slots ≡ 2 }
+    requires numbered { IsNumbered outline.head.version outline.deltas }
+    requires slots { vec_len outline.slots ≡ slot_count outline.deltas }
+    requires sound { AreSound outline.deltas outline.slots.items }
     ensures told { IfOk result (λ found. Told (D.seen disk.old) (λ s. IsHeldBy outline.head s → IsOutline outline s → FindsIn found s)) }
     ensures open { IfOk result IsUnshut }
     ensures reads { OnlyReads D.seen D.moment D.leaves disk.old disk.new }
@@ -224,8 +233,8 @@ fn settle<D: Disk>(disk: &mut D) -> Result<(), DiskFault>
 
 impl Store {
     /// Finds out what a disk holds: no store, a store, or one of which a part is damaged, by the bytes alone. Begins with a sync, and
-    /// reads heads, gates and the problem; of a payload it looks only whether its last byte is there. Writes nothing. Whatever it answers but a
-    /// fault of the disk, a stop leaves what a read gives.
+    /// reads heads, gates and the problem; of a payload it reads the first eight bytes, and looks whether its last byte is there. Writes nothing.
+    /// Whatever it answers but a fault of the disk, a stop leaves what a read gives.
     pub fn open<D: Disk>(alloc: Global, disk: &mut D) -> Result<Found, StoreFault>
         ensures finds { IfOk result (λ found. Told (D.seen disk.old) (λ s. Finds found (stored s))) }
         ensures ready { IfOk result (λ found. IsReadyFound D.seen D.moment D.leaves found disk.new) }

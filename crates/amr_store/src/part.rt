@@ -12,11 +12,13 @@ pub enum Part {
     Head,
     /// The problem's text: too long, or cut off.
     Text,
+    /// The number of records behind a base: missing, 0, or more than 7.
+    Deltas,
     /// The size of a slot.
     Size,
-    /// A slot, by its number: its gate lies past the end, or it is open and not whole.
+    /// A slot, by its number: its gate lies past the end, or it is open and not whole; or it is a record on a sequence above the last one.
     Slot(u32),
-    /// Both slots are open with one sequence.
+    /// Both whole states are open with one sequence.
     Tie,
     /// The problem bytes are no problem.
     Problem,
@@ -24,6 +26,8 @@ pub enum Part {
     State(u64),
     /// The sequence is not the state's.
     Sequence,
+    /// A record that counts, by its number from 1 on: it is no record on the state before it, or its sequence is not its state's.
+    Chain(u32),
     /// A renewed store holds another problem than the one that it was renewed from.
     Renewal,
 }

@@ -8,13 +8,14 @@ ghost use Rattle.amr_store.specs.Layout.{end_of};
 ghost use Rattle.amr_store.specs.Phases.{StopsFrom};
 ghost use Rattle.amr_store.specs.Reasons.{HasReason, is_no_memory, is_shut_fault};
 ghost use Rattle.amr_store.specs.Renewed.{IsOld, IsOldShut, IsRenewed, SameOrRenewed, renewal_bytes, renewed_state, shut_past, renewed_image};
-ghost use Rattle.amr_store.specs.Stands.{IsStoreReady, is_shut, version_in, problem_in, slot_size_in, last_in};
+ghost use Rattle.amr_store.specs.Stands.{IsStoreOf, IsStoreReady, is_shut, put_slot, version_in, problem_in, slot_size_in, last_in};
 ghost use Rattle.amr_store.specs.Stored.{stored, Held};
 
-use crate::create::MAGIC_2;
+use crate::create::head_of;
 use crate::device::{has_byte, write_synced, write_two_synced};
 use crate::part::StoreFault;
 use crate::put::{OPEN, slot_head};
+use crate::reading::front_of;
 use crate::slot::{Slot, end_of, gate_at};
 use crate::store::Store;
 use amr_disk::{Disk, DiskFault};
@@ -33,24 +34,27 @@ fn renewal_of(
     ensures bytes { IfOk result (λ v. v.items ≡ renewal_bytes problem.now slot_size sequence bytes.now) }
     ensures count { IfOk result (λ v. vec_len v ≡ 37 + length problem.now + length bytes.now) }
 {
-    let mut all = Vec::new(alloc);
-    all.extend_from_slice(&MAGIC_2.to_le_bytes())?;
-    all.extend_from_slice(&slot_size.to_le_bytes())?;
-    all.extend_from_slice(&(problem.len() as u32).to_le_bytes())?;
-    all.extend_from_slice(problem)?;
-    all.push(OPEN)?;
+    let mut all = head_of(alloc, 2, problem, slot_size, OPEN)?;
     all.extend_from_slice(&slot_head(sequence, bytes.len() as u64))?;
     all.extend_from_slice(bytes)?;
     Ok(all)
 }
 
 // The slots of the new store: the first holds the state.
-fn renewed_slots(alloc: Global, sequence: u64, length: u64) -> Result<Vec<Option<Slot>>, AllocError>
-    ensures slots { IfOk result (λ v. v.items ≡ Some record { sequence = sequence; length = length } ∷ None ∷ []) }
+fn renewed_slots(
+    alloc: Global,
+    sequence: u64,
+    bytes: &[u8],
+) -> Result<Vec<Option<Slot>>, AllocError>
+    ensures slots { IfOk result (λ v. v.items ≡ put_slot sequence bytes.now ∷ None ∷ []) }
     ensures count { IfOk result (λ v. vec_len v ≡ 2) }
 {
     let mut slots = Vec::new(alloc);
-    slots.push(Some(Slot { sequence, length }))?;
+    slots.push(Some(Slot {
+        sequence,
+        length: bytes.len() as u64,
+        front: front_of(bytes),
+    }))?;
     slots.push(None)?;
     Ok(slots)
 }
@@ -140,11 +144,8 @@ impl Store {
         requires size { slot_size ≤ 2 ^ 40 }
         requires fits { length bytes.now ≤ slot_size }
         ensures ready { IfOk result (λ store. IsStoreReady D.seen D.moment D.leaves store disk.new) }
-        ensures problem { IfOk result (λ store. problem_in store ≡ problem_in self) }
-        ensures size { IfOk result (λ store. slot_size_in store ≡ slot_size) }
-        ensures version { IfOk result (λ store. version_in store ≡ 2) }
+        ensures store { IfOk result (IsStoreOf 2 (problem_in self) slot_size 0) }
         ensures last { IfOk result (λ store. last_in store ≡ Some sequence) }
-        ensures unshut_store { IfOk result (λ store. is_shut store ≡ false) }
         ensures seen { OnOk result (D.seen disk.new
             ≡ option_map (renewed_image (end_of (length (problem_in self)) (slot_size_in self)) (problem_in self) slot_size sequence bytes.now)
             (D.seen disk.old)) }
@@ -171,7 +172,7 @@ impl Store {
         }
         let end = end_of(problem.len() as u64, old_size);
         let all = renewal_of(alloc, &problem, slot_size, sequence, bytes)?;
-        let slots = renewed_slots(alloc, sequence, bytes.len() as u64)?;
+        let slots = renewed_slots(alloc, sequence, bytes)?;
         let state = Entry {
             sequence,
             payload: bytes,

@@ -1,8 +1,8 @@
 //! The store in memory.
 ghost use Rattle.std.specs.Prelude.{◌≡◌, ◌≤◌, ◌<◌, ◌+◌, ◌^◌, vec_len};
-ghost use Rattle.amr_store.specs.Table.{slot_count};
+ghost use Rattle.amr_store.specs.Table.{slot_count, AreSound, IsNumbered};
 
-use crate::slot::{Slot, gate_at, latest_base, next_base};
+use crate::slot::{Slot, chain_of, gate_at, last_of, latest_base, lead_length, next_base};
 
 /// A store: the problem of a run, and a table of slots for its states. It is plain data; each call that reaches the disk takes it.
 #[derive(Drop)]
@@ -17,14 +17,15 @@ pub struct Store {
     ghost base_fits: { base ≤ 2 ^ 43 },
     ghost text_fits: { vec_len problem ≤ 65536 },
     ghost size_fits: { slot_size ≤ 2 ^ 40 },
-    ghost deltas_fit: { deltas ≤ 7 },
+    ghost numbered: { IsNumbered version deltas },
     ghost all_slots: { vec_len slots ≡ slot_count deltas },
+    ghost sound: { AreSound deltas slots.items },
 }
 
 impl Store {
-    ghost use Rattle.std.specs.Prelude.{slice_set};
-    ghost use Rattle.amr_store.specs.Table.{slot_count};
-    ghost use Rattle.amr_store.specs.Stands.{SameStore, problem_in, slot_size_in, version_in, last_in, next_in};
+    ghost use Rattle.std.specs.Prelude.{◌≢◌, slice_set};
+    ghost use Rattle.amr_store.specs.Table.{slot_count, AreSound};
+    ghost use Rattle.amr_store.specs.Stands.{SameStore, chain_in, next_record_in, problem_in, slot_size_in, version_in, last_in, counted_in, next_in};
     ghost use Rattle.amr_store.specs.Stands.{latest_slot_in, gate_in, slot_in, slots_in, deltas_in, is_shut, shut_of};
 
     /// The problem bytes.
@@ -41,21 +42,55 @@ impl Store {
         self.slot_size
     }
 
-    /// The version of the store's format: 1 or 2.
+    /// The version of the store's format: 1, 2 or 3.
     pub fn version(&self) -> u32
         ensures { result ≡ version_in self.now }
     {
         self.version
     }
 
-    /// The greatest sequence of an open slot; None exactly where no slot is open.
+    /// How many records may follow a whole state: 0 in versions 1 and 2, and 1 to 7 in version 3.
+    pub fn deltas(&self) -> u32
+        ensures number { result ≡ deltas_in self.now }
+        ensures few { result ≤ 7 }
+        ensures some { version_in self.now ≡ 3 → 0 < result }
+        ensures none { version_in self.now ≢ 3 → result ≡ 0 }
+    {
+        self.deltas as u32
+    }
+
+    /// How many records count: each stands on the state before it, the first on the latest whole one.
+    pub fn chain(&self) -> u32
+        ensures number { result ≡ chain_in self.now }
+        ensures few { result ≤ deltas_in self.now }
+    {
+        chain_of(&self.slots, self.deltas) as u32
+    }
+
+    /// The sequence of the latest state: that of the last record that counts, else that of the whole state. None exactly where no whole state is in the store.
     pub fn last(&self) -> Option<u64>
         ensures { result ≡ last_in self.now }
     {
-        match self.slot(self.latest_slot()) {
+        last_of(&self.slots, self.deltas)
+    }
+
+    /// The sequence of the latest whole state, which has number 0, or of the record of this number that counts. None exactly where no whole
+    /// state is in the store.
+    pub fn sequence_at(&self, number: u32) -> Option<u64>
+        requires counts { number ≤ chain_in self.now }
+        ensures { result ≡ counted_in self.now number }
+    {
+        match self.slot(self.latest_slot() + number as usize) {
             Some(slot) => Some(slot.sequence),
             None => None,
         }
+    }
+
+    // The slot of the next record.
+    pub(crate) fn next_record(&self) -> usize
+        ensures { result ≡ next_record_in self.now }
+    {
+        latest_base(&self.slots, self.deltas) + chain_of(&self.slots, self.deltas) + 1
     }
 
     // The slot that the next put fills.
@@ -66,7 +101,7 @@ impl Store {
         next_base(&self.slots, self.deltas)
     }
 
-    // The slot that holds the latest state, where one is open.
+    // The slot that holds the latest whole state, where one is open.
     pub(crate) fn latest_slot(&self) -> usize
         ensures slot { result ≡ latest_slot_in self.now }
         ensures within { result < slot_count (deltas_in self.now) }
@@ -80,7 +115,8 @@ impl Store {
         ensures place { result ≡ gate_in self.now k }
         ensures bound { result + slot_size_in self.now < 2 ^ 47 }
     {
-        self.base + gate_at(k, self.problem.len() as u64, self.slot_size)
+        let lead = lead_length(self.version, self.problem.len() as u64);
+        self.base + gate_at(k, lead, self.slot_size)
     }
 
     // What is known of a slot.
@@ -94,6 +130,7 @@ impl Store {
     // Notes what a slot holds now.
     pub(crate) fn set_slot(&mut self, k: usize, slot: Option<Slot>)
         requires within { k < slot_count (deltas_in self.old) }
+        requires sound { AreSound (deltas_in self.old) (slice_set (slots_in self.old) k slot) }
         ensures slots { slots_in self.new ≡ slice_set (slots_in self.old) k slot }
         ensures same { SameStore self.old self.new }
         ensures shut { is_shut self.new ≡ is_shut self.old }

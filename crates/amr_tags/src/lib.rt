@@ -12,7 +12,7 @@ mod coarsen;
 mod edges;
 mod fill;
 mod grow;
-mod joining;
+mod join;
 mod rows;
 mod scan;
 
@@ -128,7 +128,7 @@ impl Tags {
         ensures shape { SameShape self.old self.new }
         ensures cells { (c : Cell) → has self.new c ≡ (has self.old c || has other.now c) }
     {
-        joining::join_words(&mut self.words, other.words());
+        join::join_words(&mut self.words, other.words());
     }
 
     /// The parents of the tagged cells (BoxLib's tags, coarsened by 2), over the parents of the box's cells. The axes stay,

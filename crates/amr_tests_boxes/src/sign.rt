@@ -3,7 +3,7 @@
 use crate::boxes::box_of;
 use amr_box::{Axis, Cell};
 use amr_causes::NoMemory;
-use amr_sign::{Cut, best_cut, both_signatures, signature, signature_bits};
+use amr_sign::{Cut, best_cut, signature, signature_bits};
 use std::alloc::Global;
 use std::test::Fail;
 
@@ -83,16 +83,4 @@ fn cuts_at_the_best_place(rt: HostRuntime) {
     assert_eq!(rt; half, None, "no part of width 2 is left");
     let shorter = best_cut(&[2, 1, 2, 1], &[3, 0, 3], 1);
     assert_eq!(rt; shorter, y(1), "a hole of the shorter axis");
-}
-
-/// Two rows of three words: bits 0, 63, 64 and 129 of the first, bits 63 and 191 of the second.
-const ROWS: [u64; 6] = [1 | 1 << 63, 1, 2, 1 << 63, 0, 1 << 63];
-
-#[test]
-fn columns_and_rows_across_words(rt: HostRuntime) -> Result<(), Fail> {
-    let part = box_of(Cell { x: 62, y: 0 }, Cell { x: 65, y: 1 })?;
-    let counts = both_signatures(rt.alloc(), &ROWS, 3, part)?;
-    assert_eq!(rt; counts.columns.as_slice(), [0, 2, 1, 0].as_slice());
-    assert_eq!(rt; counts.rows.as_slice(), [2, 1].as_slice());
-    Ok(())
 }

@@ -1,6 +1,6 @@
-//! Each field of a payload at its bounds, and each length that a payload is cut to.
+//! Each field of a payload at its bounds.
 
-use crate::payloads::{fault_in, part, set, state_bytes, three_levels};
+use crate::payloads::{fault_in, set, state_bytes, three_levels};
 use amr_codec::MassWidth;
 use amr_decoder::CodecFault;
 use std::alloc::Global;
@@ -86,7 +86,7 @@ const TABLE: &str = "0 => 0 => good
 465 => 67108993 => 465";
 
 /// The fault as the table has it.
-fn told(alloc: Global, fault: Option<CodecFault>) -> Result<String, Fail> {
+pub(crate) fn told(alloc: Global, fault: Option<CodecFault>) -> Result<String, Fail> {
     match fault {
         None => Ok(format!(in alloc; "good")?),
         Some(CodecFault::Bad { place }) => Ok(format!(in alloc; "{place}")?),
@@ -111,38 +111,6 @@ fn each_field_at_its_bounds(rt: HostRuntime) -> Result<(), Fail> {
         let fault = fault_in(alloc, &p, MassWidth::Eight, &bytes);
         let told = told(alloc, fault)?;
         assert_eq!(rt; told.as_str(), want, "{row}");
-    }
-    Ok(())
-}
-
-/// The place of the field of the three levels' payload 1 that a byte belongs to.
-fn field_of(byte: usize) -> usize {
-    if byte < 4 {
-        return 0;
-    }
-    if byte < 28 {
-        return byte - (byte - 4) % 8;
-    }
-    if byte < 29 {
-        return 28;
-    }
-    let in_level = (byte - 29) % 148;
-    if in_level < 20 {
-        byte - in_level % 4
-    } else {
-        byte - (in_level - 20) % 8
-    }
-}
-
-#[test]
-fn each_length_from_none_to_the_whole(rt: HostRuntime) -> Result<(), Fail> {
-    let alloc = rt.alloc();
-    let p = three_levels(alloc)?;
-    let bytes = state_bytes(alloc, MassWidth::Eight)?;
-    for len in 0..bytes.len() {
-        let fault = fault_in(alloc, &p, MassWidth::Eight, part(&bytes, 0, len));
-        let place = field_of(len) as u64;
-        assert_eq!(rt; fault, Some(CodecFault::Bad { place }));
     }
     Ok(())
 }

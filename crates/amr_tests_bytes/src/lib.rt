@@ -13,4 +13,6 @@ mod problem;
 #[cfg(test)]
 mod problems;
 #[cfg(test)]
+mod records;
+#[cfg(test)]
 mod trial;

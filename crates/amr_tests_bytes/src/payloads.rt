@@ -1,19 +1,11 @@
 //! Whole payloads: bytes and places worked out by hand from the table of fields.
 
-use amr_codec::{MassWidth, encode, encode2};
+use amr_codec::MassWidth;
 use amr_decoder::{CodecFault, decode, decode2};
 use amr_def::Problem;
 use amr_problem::judge;
 use std::alloc::Global;
-use std::process::Abort;
 use std::test::Fail;
-
-/// The bytes from one place on up to another, as far as there are any.
-pub(crate) fn part(bytes: &[u8], from: usize, to: usize) -> &[u8] {
-    let to = to.min(bytes.len());
-    let from = from.min(to);
-    &bytes[from..to]
-}
 
 /// Sets a byte, where there is one.
 pub(crate) fn set(bytes: &mut [u8], place: usize, byte: u8) {
@@ -37,40 +29,6 @@ pub(crate) fn fault_in(
         Ok(_mesh) => None,
         Err(fault) => Some(fault),
     }
-}
-
-/// Payload 1 is read, and written again as it stood.
-fn wide_comes_back(rt: &(impl Abort + AllocGlobal), p: &Problem, bytes: &[u8]) -> Result<(), Fail> {
-    let mesh = decode(rt.alloc(), p, bytes)?;
-    let again = encode(rt.alloc(), p, &mesh)?;
-    assert_eq!(rt; again.as_slice(), bytes);
-    Ok(())
-}
-
-/// Payload 1 is read, and its state is written as this payload 2.
-fn wide_as_narrow(
-    rt: &(impl Abort + AllocGlobal),
-    p: &Problem,
-    wide: &[u8],
-    narrow: &[u8],
-) -> Result<(), Fail> {
-    let mesh = decode(rt.alloc(), p, wide)?;
-    let other = encode2(rt.alloc(), p, &mesh)?;
-    assert_eq!(rt; other.as_slice(), narrow);
-    Ok(())
-}
-
-/// Payload 2 is read, and its state is written as this payload 1.
-fn narrow_as_wide(
-    rt: &(impl Abort + AllocGlobal),
-    p: &Problem,
-    narrow: &[u8],
-    wide: &[u8],
-) -> Result<(), Fail> {
-    let mesh = decode2(rt.alloc(), p, narrow)?;
-    let other = encode(rt.alloc(), p, &mesh)?;
-    assert_eq!(rt; other.as_slice(), wide);
-    Ok(())
 }
 
 const THREE_LEVELS: &str = "version = 1
@@ -97,7 +55,8 @@ const LEVELS: [[u32; 16]; 3] = [
     [1, 1, 1, 1, 1, 1, 1, 1, 1, 1, 1, 1, 1, 1, 1, 1],
 ];
 
-fn put(bytes: &mut Vec<u8>, n: u32) -> Result<(), Fail> {
+/// Appends a number of four bytes.
+pub(crate) fn put(bytes: &mut Vec<u8>, n: u32) -> Result<(), Fail> {
     bytes.extend_from_slice(&n.to_le_bytes())?;
     Ok(())
 }
@@ -127,14 +86,4 @@ pub(crate) fn state_bytes(alloc: Global, width: MassWidth) -> Result<Vec<u8>, Fa
         }
     }
     Ok(bytes)
-}
-
-#[test]
-fn three_levels_there_and_back(rt: HostRuntime) -> Result<(), Fail> {
-    let p = three_levels(rt.alloc())?;
-    let wide = state_bytes(rt.alloc(), MassWidth::Eight)?;
-    let narrow = state_bytes(rt.alloc(), MassWidth::Four)?;
-    wide_comes_back(&rt, &p, &wide)?;
-    wide_as_narrow(&rt, &p, &wide, &narrow)?;
-    narrow_as_wide(&rt, &p, &narrow, &wide)
 }

@@ -1,10 +1,8 @@
 //! Which texts are accepted and which refused: each fault, and the ends of each range.
 
-use amr_def::{Problem, Sides};
 use amr_problem::{JudgeFault, ProblemFault, judge};
 use std::alloc::Global;
 use std::fmt::Write as _;
-use std::process::Abort;
 use std::test::Fail;
 
 const RING: &str = "version = 1
@@ -204,76 +202,4 @@ fn each_fault_comes_where_it_applies(rt: HostRuntime) -> Result<(), Fail> {
         assert_eq!(rt; told.as_str(), want, "{text}");
     }
     Ok(())
-}
-
-/// Bytes that no line of the table can be: no text, and rows that are too many.
-#[test]
-fn bytes_that_are_no_line_of_the_table(rt: HostRuntime) -> Result<(), Fail> {
-    let alloc = rt.alloc();
-    assert_eq!(rt; verdict(alloc, b"\xff")?.as_str(), "NotToml");
-    let mut text = ring_with(alloc, "blocks")?;
-    text.push_str("blocks = [")?;
-    for _ in 0..256 {
-        text.push_str("[0, 0, 0, 0, 1], ")?;
-    }
-    let rows = format!(in alloc; "{text}[0, 0, 0, 0, 1]]")?;
-    assert_eq!(rt;
-        verdict(alloc, rows.as_bytes())?.as_str(),
-        "OutOfRange(Blocks, 257)"
-    );
-    Ok(())
-}
-
-/// Lines of a problem of version 2.
-const WIND: &str =
-    "version = 2;name = \"wind\";courant = [9, -9, 4];sides = [6, 1073741824, 1, 2];max_level = 1;tag = [7];shear_x = [1, -2];shear_y = [2, 1, 0, -2];blocking = 4;max_grid_size = 6";
-
-/// What stands at a key that each problem has is the field of its name.
-fn given_fields(rt: &impl Abort, wind: &Problem) {
-    assert_eq!(rt; (wind.version, wind.nx, wind.ny, wind.steps), (2, 4, 2, 1));
-    assert_eq!(rt; wind.name.bytes(), b"wind".as_slice());
-    assert_eq!(rt; (wind.cx, wind.cy, wind.d), (9, -9, 4));
-    assert_eq!(rt;
-        (wind.x_sides, wind.y_sides),
-        (Sides::Open(6, 1_073_741_824), Sides::Open(1, 2))
-    );
-    assert_eq!(rt; wind.blocks.entries().len(), 1);
-}
-
-/// And at a key that may be absent.
-fn further_fields(rt: &impl Abort, wind: &Problem) {
-    assert_eq!(rt; wind.shear_x.entries(), [1, -2].as_slice());
-    assert_eq!(rt; wind.shear_y.entries(), [2, 1, 0, -2].as_slice());
-    assert_eq!(rt;
-        (wind.max_level, wind.blocking, wind.max_grid_size),
-        (1, 4, 6)
-    );
-    assert_eq!(rt; wind.tag.entries(), [7].as_slice());
-}
-
-#[test]
-fn fields_stand(rt: HostRuntime) -> Result<(), Fail> {
-    let text = ring_with(rt.alloc(), WIND)?;
-    let wind = judge(rt.alloc(), text.as_bytes()).expect(&rt, "the wind");
-    given_fields(&rt, &wind);
-    further_fields(&rt, &wind);
-    Ok(())
-}
-
-#[test]
-fn absent_fields_stand(rt: HostRuntime) {
-    let ring = judge(rt.alloc(), RING.as_bytes()).expect(&rt, "the ring");
-    assert_eq!(rt;
-        (ring.n_error_buf, ring.efficiency, ring.min_width),
-        (1, 70, 2)
-    );
-    assert_eq!(rt;
-        (ring.regrid_int, ring.blocking, ring.max_grid_size),
-        (2, 2, 32)
-    );
-    assert_eq!(rt;
-        (ring.x_sides, ring.y_sides),
-        (Sides::Periodic, Sides::Periodic)
-    );
-    assert!(rt; ring.tag.entries().is_empty() && ring.shear_x.entries().is_empty());
 }

@@ -1,5 +1,3 @@
 mod OneBoxLevels
 mod ApartPatches
 mod CoveredCells
-mod TwoRuns
-mod SentMessages

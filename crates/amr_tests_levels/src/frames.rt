@@ -1,6 +1,6 @@
 //! Small patches and their frames, with which several crates are tested.
 
-ghost use Rattle.std.specs.Prelude.{◌≡◌, ℕ, ◌<◌, ◌≤◌, length, slice_index_or, IfOk, IsTrue, true, false};
+ghost use Rattle.std.specs.Prelude.{◌≡◌, ℕ, ◌<◌, ◌≤◌, length, slice_index_or, map, IsTrue, true, false};
 ghost use Rattle.amr_box.specs.declared.Cell.{Cell};
 ghost use Rattle.amr_box.specs.Cells.{holds};
 ghost use Rattle.amr_def.specs.Domain.{domain, domain_of, in_domain};
@@ -10,7 +10,8 @@ ghost use Rattle.amr_ghost.specs.Frames.{AreInDomain};
 
 use amr_box::{Bx, Cell};
 use amr_def::{Dom, Problem};
-use amr_patch::Patch;
+use amr_ghost::{fill, find_sources};
+use amr_patch::{Level, Patch, order_of, starts_of};
 use std::alloc::Global;
 use std::test::Fail;
 
@@ -56,6 +57,25 @@ pub(crate) fn ghost_at(patches: &[Patch], k: usize, c: Cell) -> Option<(u64, boo
         return None;
     }
     Some(patches[k].ghost_cell(c))
+}
+
+/// Fills the frames of the patches of level `l`.
+pub(crate) fn fill_frames(
+    alloc: Global,
+    p: &Problem,
+    l: u32,
+    patches: &mut [Patch],
+    old: Option<&Level>,
+) -> Result<(), Fail>
+    requires level { l ≤ 4 }
+    requires apart { ArePatchesApart patches.old }
+    requires inside { AreInDomain (domain p.now l) patches.old }
+    ensures { map box patches.new ≡ map box patches.old }
+{
+    let starts = starts_of(alloc, patches)?;
+    let sources = find_sources(alloc, p, l, patches, order_of(patches), &starts, old)?;
+    fill(patches, &sources);
+    Ok(())
 }
 
 /// Whether two patches have a cell in common.

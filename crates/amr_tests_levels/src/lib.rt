@@ -9,8 +9,6 @@ mod boxes;
 #[cfg(test)]
 mod frames;
 #[cfg(test)]
-mod parts;
-#[cfg(test)]
 mod plans;
 #[cfg(test)]
 mod register;

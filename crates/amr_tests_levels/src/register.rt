@@ -5,10 +5,9 @@ ghost use Rattle.amr_box.specs.declared.Cell.{Cell};
 ghost use Rattle.amr_def.specs.State.{Masses};
 ghost use Rattle.amr_register.specs.Registers.{IsRegisterOf, entry_in};
 
-use crate::frames::{are_of_level, cell, ghost_at, patch};
+use crate::frames::{are_of_level, cell, fill_frames, ghost_at, patch};
 use crate::transfer::put;
 use amr_def::Problem;
-use amr_ghost::fill;
 use amr_patch::{Level, Patch};
 use amr_register::Register;
 use amr_samples::{empty_level, fine_box, ring, whole_box};
@@ -22,7 +21,7 @@ fn ghosts(alloc: Global, p: &Problem, coarse: &Level) -> Result<[Option<(u64, bo
     if !are_of_level(p, 1, &fine) {
         return Ok([None; 2]);
     }
-    fill(p, 1, &mut fine, Some(coarse));
+    fill_frames(alloc, p, 1, &mut fine, Some(coarse))?;
     Ok([
         ghost_at(&fine, 0, cell(3, 0)),
         ghost_at(&fine, 0, cell(3, 1)),
@@ -47,23 +46,24 @@ fn absorbed(register: &mut Register, finer: u8) -> Option<(i64, i64)> {
 
 /// The first entry of a register after a step of the coarser level, and once so much has flowed from that cell in the finer steps.
 fn exchanged(
+    alloc: Global,
     p: &Problem,
     patches: &mut [Patch],
     register: &mut Register,
     finer: u8,
-) -> Option<(i64, i64)>
+) -> Result<Option<(i64, i64)>, Fail>
     requires register { (m : Masses) × (fine : Masses) × IsRegisterOf p.now 0 m fine register.old }
     requires zero { (c : Cell) → entry_in register.old c ≡ pos 0 }
 {
     if !are_of_level(p, 0, patches) {
-        return None;
+        return Ok(None);
     }
-    fill(p, 0, patches, None);
+    fill_frames(alloc, p, 0, patches, None)?;
     if patches.is_empty() {
-        return None;
+        return Ok(None);
     }
     register.coarse_part(p, 0, &patches[0]);
-    absorbed(register, finer)
+    Ok(absorbed(register, finer))
 }
 
 /// The ghost cells beside a mass in cell (1, 0), and what the register has for that cell after the coarser step and after the finer ones,
@@ -79,7 +79,7 @@ fn given_back(
     let mut register = Register::make(alloc, &p, 0, &coarse, &fine)?;
     put(&mut coarse, cell(1, 0), mass);
     let ghosts = ghosts(alloc, &p, &coarse)?;
-    let entries = exchanged(&p, &mut coarse.take_patches(), &mut register, finer);
+    let entries = exchanged(alloc, &p, &mut coarse.take_patches(), &mut register, finer)?;
     Ok((ghosts, entries))
 }
 

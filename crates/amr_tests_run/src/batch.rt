@@ -45,24 +45,18 @@ fn ends<R: Abort + Alloc<A = Global> + Threads + Wait + Sync>(
 }
 
 #[test]
-fn the_ring_alone(rt: HostRuntime) -> Result<(), Fail> {
-    let alloc = rt.alloc();
-    let batch = batch_of(alloc, &[RING])?;
-    let answer = format!(in alloc; "reply 0 0 100\n{RING_PLOT}end\n")?;
-    ends(&rt, batch.as_bytes(), 0, answer.as_str(), "");
+fn the_ring_and_few_bytes(rt: HostRuntime) -> Result<(), Fail> {
+    let batch = format!(in rt.alloc(); "job 137\n{RING}")?;
+    let answer = format!(in rt.alloc(); "reply 0 0 100\n{RING_PLOT}end\n")?;
+    let line = "reply 0 3 34\namr: problem: missing key version\nend\n";
+    for (bytes, out) in [
+        (batch.as_str(), answer.as_str()),
+        ("", "end\n"),
+        ("job 0\n", line),
+    ] {
+        ends(&rt, bytes.as_bytes(), 0, out, "");
+    }
     Ok(())
-}
-
-#[test]
-fn few_bytes(rt: HostRuntime) {
-    ends(&rt, b"", 0, "end\n", "");
-    ends(
-        &rt,
-        b"job 0\n",
-        0,
-        "reply 0 3 34\namr: problem: missing key version\nend\n",
-        "",
-    );
 }
 
 /// More jobs than workers, of both kinds.

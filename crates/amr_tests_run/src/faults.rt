@@ -4,7 +4,7 @@ use crate::cases::{Case, RING, RING_PLOT, ring_with};
 use std::test::Fail;
 
 const USAGE: &str =
-    "amr: usage: run [--workers W] [--to K] [--keep E] | check | show | trial NUMBER SIZE [--workers W] | batch [--workers W]\n";
+    "amr: usage: run [--workers W] [--to K] [--keep E] [--deltas D] | check | show | trial NUMBER SIZE [--workers W] | batch [--workers W]\n";
 
 const TRIAL: &str =
     "trial 1 64 step 16 levels 3 boxes 16 mass 1501170 sha256 b10ee6787cb6ad3e832772c1cd56fc3516691143d250f1d82867fbe5b0a60a5d\n";
@@ -112,15 +112,6 @@ fn faults_of_the_problem(rt: HostRuntime) -> Result<(), Fail> {
         let line = format!(in alloc; "amr: problem: {fault}\n")?;
         Case::run(text.as_bytes()).ends(&rt, 3, "", line.as_str());
         Case::of("check", text.as_bytes()).ends(&rt, 3, "", line.as_str());
-    }
-    Ok(())
-}
-
-#[test]
-fn accepted(rt: HostRuntime) -> Result<(), Fail> {
-    for lines in ["courant = [1, 0, 2]", "courant = [2, 2, 4]"] {
-        let text = ring_with(rt.alloc(), lines)?;
-        Case::of("check", text.as_bytes()).ends(&rt, 0, "ok 4 2 1 0\n", "");
     }
     Ok(())
 }

@@ -1,10 +1,10 @@
-//! The gate of the program's tasks: two workers take part, and for a lone one a step is one task.
+//! The gate of the program's tasks: two workers take part.
 
 ghost use Rattle.std.specs.Prelude.{ℕ, ◌<◌};
 
 use crate::batch::{batch_of, replies};
 use crate::cases::ring_with;
-use crate::plots::NINE_COLUMNS_PLOT;
+use crate::worked::{NINE_COLUMNS, NINE_COLUMNS_PLOT};
 use amr_cli::Line;
 use amr_disk::MemDisk;
 use amr_io::{MemSink, MemSource};
@@ -14,16 +14,13 @@ use amr_workers::Gate;
 use std::alloc::Global;
 use std::process::Abort;
 use std::sync::Wait;
-use std::sync::atomic::{AtomicBool, AtomicU32, Ordering};
 use std::test::Fail;
 use std::thread::Threads;
 
 /// The ring of nine columns in three patches, as text: two steps.
 fn nine_columns(alloc: Global) -> Result<String, Fail> {
-    ring_with(
-        alloc,
-        "cells = [9, 3];courant = [1, 0, 1];steps = 2;max_grid_size = 4;blocks = [[8, 0, 8, 0, 8]]",
-    )
+    let lines = format!(in alloc; "{NINE_COLUMNS};max_grid_size = 4")?;
+    ring_with(alloc, lines.as_str())
 }
 
 /// A command whose tasks pass this gate answers so, with so many workers.
@@ -53,30 +50,19 @@ fn answers<R: Abort + Alloc<A = Global> + Threads + Wait + Sync, G: Gate + Sync>
     Ok(())
 }
 
-/// So many workers at this gate make the same plot of nine columns.
-fn makes_plot<R: Abort + Alloc<A = Global> + Threads + Wait + Sync, G: Gate + Sync>(
-    rt: &R,
-    workers: &str,
-    gate: &G,
-) -> Result<(), Fail>
-    requires { (worker task : ℕ) → worker < 64 → G.admits gate.now worker task }
-{
-    let text = nine_columns(rt.alloc())?;
-    let words = ["run", "--workers", workers];
-    answers(
-        rt,
-        words,
-        text.as_bytes(),
-        NINE_COLUMNS_PLOT.as_bytes(),
-        gate,
-    )
-}
-
 /// A task is held until another is done: so a second worker takes part in the steps of the program.
 #[test]
 fn second_task_first(rt: HostRuntime) -> Result<(), Fail> {
+    let text = nine_columns(rt.alloc())?;
     let gate = Turnstile::new();
-    makes_plot(&rt, "2", &gate)?;
+    let words = ["run", "--workers", "2"];
+    answers(
+        &rt,
+        words,
+        text.as_bytes(),
+        NINE_COLUMNS_PLOT.as_bytes(),
+        &gate,
+    )?;
     assert!(rt; gate.has_held());
     Ok(())
 }
@@ -92,52 +78,5 @@ fn second_job_first(rt: HostRuntime) -> Result<(), Fail> {
     let words = ["batch", "--workers", "2"];
     answers(&rt, words, batch.as_bytes(), answer.as_bytes(), &gate)?;
     assert!(rt; gate.has_held());
-    Ok(())
-}
-
-/// Sees whether one worker does task 0 again and again, and leaves it before it enters it anew.
-#[derive(Drop)]
-struct InOrder {
-    calls: AtomicU32,
-    amiss: AtomicBool,
-}
-
-impl InOrder {
-    /// A gate that nobody has passed.
-    fn new() -> InOrder {
-        InOrder {
-            calls: AtomicU32::new(0),
-            amiss: AtomicBool::new(false),
-        }
-    }
-
-    /// Every second call leaves the task.
-    fn see(&self, worker: u32, task: u32, leaves: bool) {
-        let call = self.calls.fetch_add(1, Ordering::SeqCst);
-        if worker != 0 || task != 0 || leaves != (call % 2 == 1) {
-            self.amiss.store(true, Ordering::SeqCst);
-        }
-    }
-}
-
-impl Gate for InOrder {
-    ghost admits = { λ _ _ _. Unit {0} };
-
-    fn enter(&self, worker: u32, task: u32) {
-        self.see(worker, task, false);
-    }
-
-    fn leave(&self, worker: u32, task: u32) {
-        self.see(worker, task, true);
-    }
-}
-
-/// For a lone worker each of the two steps is one task.
-#[test]
-fn one_task_a_step(rt: HostRuntime) -> Result<(), Fail> {
-    let gate = InOrder::new();
-    makes_plot(&rt, "1", &gate)?;
-    assert_eq!(rt; gate.calls.load(Ordering::SeqCst), 4);
-    assert!(rt; !gate.amiss.load(Ordering::SeqCst));
     Ok(())
 }

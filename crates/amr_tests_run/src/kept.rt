@@ -21,19 +21,14 @@ pub(crate) fn bytes_of(alloc: Global, disk: &mut MemDisk) -> Result<Vec<u8>, Fai
     Ok(bytes)
 }
 
-/// Kept to step 2, shown, gone on with by four workers, and shown again.
+/// Kept to step 2 by these words, shown, gone on with by four workers, and shown again.
 fn keep_and_go_on<R: Abort + Alloc<A = Global> + Threads + Wait + Sync>(
     rt: &R,
     disk: &mut MemDisk,
+    words: &str,
 ) {
     let ring = LONG_RING.as_bytes();
-    Case::of("run --to 2 --keep 1", ring).ends_on(
-        rt,
-        disk,
-        0,
-        TWO_STEPS,
-        "checkpoint 1\ncheckpoint 2\n",
-    );
+    Case::of(words, ring).ends_on(rt, disk, 0, TWO_STEPS, "checkpoint 1\ncheckpoint 2\n");
     Case::of("show", b"").ends_on(rt, disk, 0, TWO_STEPS, "");
     Case::of("run --keep 1 --workers 4", ring).ends_on(
         rt,
@@ -51,7 +46,7 @@ fn keep_and_go_on<R: Abort + Alloc<A = Global> + Threads + Wait + Sync>(
 fn kept_shown_gone_on_with_and_refused(rt: HostRuntime) -> Result<(), Fail> {
     let alloc = rt.alloc();
     let mut disk = empty_disk(alloc, &[], None)?;
-    keep_and_go_on(&rt, &mut disk);
+    keep_and_go_on(&rt, &mut disk, "run --to 2 --keep 1");
     let before = bytes_of(alloc, &mut disk)?;
     for (words, problem, line) in [
         (
@@ -68,6 +63,14 @@ fn kept_shown_gone_on_with_and_refused(rt: HostRuntime) -> Result<(), Fail> {
         Case::of(words, problem.as_bytes()).ends_on(&rt, &mut disk, 7, "", line);
     }
     assert_eq!(rt; bytes_of(alloc, &mut disk)?.as_slice(), before.as_slice());
+    Ok(())
+}
+
+/// The same with two records behind each whole state.
+#[test]
+fn records_kept_shown_and_gone_on_with(rt: HostRuntime) -> Result<(), Fail> {
+    let mut disk = empty_disk(rt.alloc(), &[], None)?;
+    keep_and_go_on(&rt, &mut disk, "run --to 2 --keep 1 --deltas 2");
     Ok(())
 }
 

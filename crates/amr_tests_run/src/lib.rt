@@ -9,16 +9,14 @@ mod cases;
 #[cfg(test)]
 mod faults;
 #[cfg(test)]
-mod finer;
-#[cfg(test)]
 mod gate;
 #[cfg(test)]
 mod kept;
-#[cfg(test)]
-mod plots;
 #[cfg(test)]
 mod settled;
 #[cfg(test)]
 mod stops;
 #[cfg(test)]
 mod versions;
+#[cfg(test)]
+mod worked;

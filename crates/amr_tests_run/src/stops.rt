@@ -199,3 +199,18 @@ fn stops_within_a_renewal(rt: HostRuntime) -> Result<(), Fail> {
     either_state(&rt, case, &store, calls, (TWO_STEPS, three.as_str()));
     Ok(())
 }
+
+/// The seven last calls put a whole state, behind which no record of before counts; the seven before them the second record.
+#[test]
+fn stops_within_a_run_with_records(rt: HostRuntime) -> Result<(), Fail> {
+    let words = "run --keep 1 --deltas 2";
+    let stopped = stops(&rt, words, &[], 0)?;
+    assert!(rt; 40 <= stopped && stopped < CALLS);
+    let case = Case::of(words, LONG_RING.as_bytes());
+    let three = plot_after(rt.alloc(), 3, "1 3 3 1")?;
+    let record = (stopped.saturating_sub(13), stopped.saturating_sub(7));
+    either_state(&rt, case, &[], record, (TWO_STEPS, three.as_str()));
+    let whole = (stopped.saturating_sub(6), stopped);
+    either_state(&rt, case, &[], whole, (three.as_str(), FOUR_STEPS));
+    Ok(())
+}

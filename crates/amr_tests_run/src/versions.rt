@@ -1,11 +1,9 @@
-//! Stores of version 1, as the store's calls make them: read cut, shown, and renewed by the next checkpoint.
+//! A store of version 1, as the store's calls make it: shown, and renewed by the next checkpoint.
 
-ghost use Rattle.std.specs.Prelude.{◌≤◌, length};
-
-use crate::cases::{Case, FOUR_STEPS, LONG_RING, TWO_STEPS, ring_with};
+use crate::cases::{Case, FOUR_STEPS, LONG_RING, TWO_STEPS};
 use crate::kept::bytes_of;
 use amr_disk::{Disk, MemDisk};
-use amr_store::{Found, Store};
+use amr_store::Store;
 use std::alloc::Global;
 use std::test::Fail;
 
@@ -77,66 +75,5 @@ fn store_of_version_1_renewed(rt: HostRuntime) -> Result<(), Fail> {
     let end = 537 + LONG_RING.len() as u64;
     assert_eq!(rt; disk.read_at(end, &mut head), Ok(17));
     assert_eq!(rt; head, *b"\xA5AMRSTOR2\xD1\0\0\0\0\0\0\0");
-    Ok(())
-}
-
-/// The plot of 2 by 2 cells without steps and mass.
-const SQUARE: &str =
-    "amr-plot 1\nname ring\nstep 0\nledger 0 0 0 0\nlevel 0 1\nbox 0 0 1 1\n0 0\n0 0\nend\n";
-
-/// The store of version 1 of these cells, whose problem is this text.
-fn square_store(alloc: Global, problem: &[u8]) -> Result<Vec<u8>, Fail>
-    requires { length problem.now ≤ 65536 }
-{
-    let mut start = [0u8; 81];
-    set(&mut start, &[(28, 1), (29, 1), (41, 1), (45, 1)]);
-    let mut disk = MemDisk::make(alloc, &[], 1000, 100, &[], None)?;
-    let mut store = Store::create(alloc, &mut disk, problem, 97, 1)?;
-    store.put(&mut disk, 1, &start)?;
-    bytes_of(alloc, &mut disk)
-}
-
-/// The sequence of the latest state in these bytes.
-fn last_in_bytes(alloc: Global, bytes: &[u8]) -> Result<Option<u64>, Fail> {
-    let mut disk = MemDisk::make(alloc, bytes, 0, 10, &[], None)?;
-    match Store::open(alloc, &mut disk)? {
-        Found::Ready(store) => Ok(store.last()),
-        Found::Nothing => Ok(None),
-        Found::Damaged(_) => Ok(None),
-    }
-}
-
-/// What is said of the store of a problem of `text` bytes of which so many bytes are left: the table of the format.
-fn said_of(left: usize, text: usize) -> &'static str {
-    if left < 2 {
-        "amr: store is empty\n"
-    } else if left < 21 {
-        "amr: store damaged: head\n"
-    } else if left - 21 < text {
-        "amr: store damaged: text\n"
-    } else if left - 21 - text < 98 {
-        "amr: store damaged: slot 0\n"
-    } else {
-        "amr: store damaged: slot 1\n"
-    }
-}
-
-#[test]
-fn store_cut_at_every_length(rt: HostRuntime) -> Result<(), Fail> {
-    let alloc = rt.alloc();
-    let problem = ring_with(alloc, "cells = [2, 2];steps = 0;blocks = []")?;
-    let text = problem.len();
-    if text > 1000 {
-        return Ok(());
-    }
-    let whole = square_store(alloc, problem.as_bytes())?;
-    assert_eq!(rt; whole.len(), 136 + text);
-    for left in 0..whole.len() {
-        let mut disk = MemDisk::make(alloc, &whole[..left], 0, 10, &[], None)?;
-        Case::of("show", b"").ends_on(&rt, &mut disk, 7, "", said_of(left, text));
-    }
-    assert_eq!(rt; last_in_bytes(alloc, &whole)?, Some(1));
-    let mut disk = MemDisk::make(alloc, &whole, 0, 10, &[], None)?;
-    Case::of("show", b"").ends_on(&rt, &mut disk, 0, SQUARE, "");
     Ok(())
 }

@@ -1,7 +1,6 @@
 //! One step of a level on a board, by a lone worker, and how far it got with each lot: here each patch is a lot of its own.
 
 ghost use Rattle.std.specs.Prelude.{◌≡◌, ◌<◌, ◌∷◌, [], ℕ, IfOk, List};
-ghost use Rattle.std.specs.Option.{option_copied};
 ghost use Rattle.std.specs.Global.{Box as boxed};
 ghost use Rattle.amr_patch.specs.Levels.{level_of};
 ghost use Rattle.amr_patch.specs.Orders.{IsOrderOf};
@@ -11,18 +10,18 @@ ghost use Rattle.amr_lots.specs.declared.lot.Basis.{Basis as ground_of};
 ghost use Rattle.amr_lots.specs.declared.lot.Duty.TheVariants.{Step};
 ghost use Rattle.amr_lots.specs.declared.lot.Lot.{Lot as lot};
 ghost use Rattle.amr_lots.specs.declared.lot.Work.{Work as piece};
-ghost use Rattle.amr_advance.specs.Outer.{IsSharedOf};
-ghost use Rattle.amr_advance.specs.Phases.{IsBasisOf, IsOpened, IsPieceOf};
-ghost use Rattle.amr_advance.specs.Steps.{MayStepLevel, around_of, coarser_masses};
+ghost use Rattle.amr_advance.specs.Phases.{IsOpened, IsPieceOf};
+ghost use Rattle.amr_advance.specs.Steps.{MayMakeStep, around_of};
 ghost use Rattle.amr_cycle.specs.Cycles.{HasStepToCome};
 
 use crate::cycle::masses_after_a_step;
-use amr_advance::{Given, Workers, is_one, layout_for, open_step, ready_lots};
+use amr_advance::{StepInput, Workers, is_one, layout_for, open_step, ready_lots};
 use amr_board::{Board, Ended, Seat};
 use amr_causes::NoMemory;
 use amr_def::Problem;
+use amr_layout::{Surroundings, plan};
 use amr_lots::{Basis, LevelWork, Stage, Work};
-use amr_patch::{Level, Order, Patch};
+use amr_patch::{Level, Order, Patch, starts_of};
 use amr_samples::nine_columns;
 use amr_start::base;
 use amr_workers::{OpenGate, run_phase};
@@ -33,7 +32,7 @@ use std::test::Fail;
 use std::thread::Threads;
 
 /// Level 0 at the start of a problem.
-fn start_level(alloc: Global, p: &Problem) -> Result<Level, NoMemory>
+pub(crate) fn start_level(alloc: Global, p: &Problem) -> Result<Level, NoMemory>
     requires { 0 < p.now.steps }
     ensures { IfOk result (λ k. HasStepToCome p.now (level_of k ∷ [])) }
 {
@@ -45,21 +44,49 @@ fn start_level(alloc: Global, p: &Problem) -> Result<Level, NoMemory>
     Ok(level)
 }
 
-/// The board of the step of these patches, each of which is a lot, and its only seat.
+/// How many places there are for the faces between groups of so many of these patches.
+fn places_of(
+    given: StepInput<'_>,
+    order: Order,
+    patches: &[Patch],
+    each: usize,
+) -> Result<u32, NoMemory>
+    requires some { 0 < each }
+    requires step { MayMakeStep given patches.now }
+    requires order { IsOrderOf order patches.now }
+    requires cells { HasRegisterCells (around_of given patches.now) }
+{
+    let starts = starts_of(given.alloc, patches)?;
+    let level = Surroundings {
+        problem: given.problem,
+        level: given.level,
+        patches,
+        order,
+        starts: &starts,
+        cells: given.cells,
+        finer: given.finer,
+    };
+    Ok(plan(given.alloc, level, each)?.places)
+}
+
+/// The board of the step of these patches, each of which is a lot, and its only seat. And how many places groups of them have.
 fn open_patches<R: Threads + Wait + Sync>(
     rt: &R,
-    given: Given<'_>,
+    given: StepInput<'_>,
     order: Order,
     patches: &mut [Patch],
-) -> Result<(Board<Work>, Seat<Work>), NoMemory>
-    requires level { MayStepLevel (around_of given patches.old) (coarser_masses given) }
-    requires basis { IsBasisOf given.problem.now patches.old (option_copied given.old) given.basis.now }
+) -> Result<(Board<Work>, Seat<Work>, [u32; 3]), NoMemory>
+    requires step { MayMakeStep given patches.old }
     requires order { IsOrderOf order patches.old }
     requires cells { HasRegisterCells (around_of given patches.old) }
-    requires shared { IsSharedOf given.old given.shared }
     ensures { IfOk result (λ r. (shape : form) × (xs : List (boxed lot))
         × IsOpened given.entry.basis.now given.entry.level Step given.entry.problem.now shape xs r.0 r.1) }
 {
+    let places = [
+        places_of(given, order, patches, 1)?,
+        places_of(given, order, patches, 2)?,
+        places_of(given, order, patches, 3)?,
+    ];
     let mut kept = None;
     let mut layout = layout_for(rt, given, order, patches, patches.len(), &mut kept)?;
     ready_lots(given, patches, &mut layout.lots);
@@ -74,11 +101,12 @@ fn open_patches<R: Threads + Wait + Sync>(
     };
     let mut edges = Vec::new(given.alloc);
     let opened = open_step(&mut workers, given, patches, &mut edges, &mut layout.lots)?;
-    Ok(opened)
+    let (board, seat) = opened;
+    Ok((board, seat, places))
 }
 
 /// What the first step of level 0 is made from.
-fn first_step<'a>(alloc: Global, p: &'a Problem, basis: &'a Basis) -> Given<'a>
+fn first_step<'a>(alloc: Global, p: &'a Problem, basis: &'a Basis) -> StepInput<'a>
     ensures problem { result.problem.now ≡ p.now }
     ensures level { result.level ≡ 0 }
     ensures old { result.old ≡ None }
@@ -87,7 +115,7 @@ fn first_step<'a>(alloc: Global, p: &'a Problem, basis: &'a Basis) -> Given<'a>
     ensures cells { result.cells.now ≡ [] }
     ensures basis { result.basis.now ≡ basis.now }
 {
-    Given {
+    StepInput {
         alloc,
         problem: p,
         level: 0,
@@ -99,13 +127,13 @@ fn first_step<'a>(alloc: Global, p: &'a Problem, basis: &'a Basis) -> Given<'a>
     }
 }
 
-/// The board of the step of this level 0, and its only seat.
+/// The board of the step of this level 0, its only seat, and how many places there are.
 fn open_level<R: Threads + Wait + Sync>(
     rt: &R,
     alloc: Global,
     p: &Problem,
     mut level: Level,
-) -> Result<(Board<Work>, Seat<Work>), NoMemory>
+) -> Result<(Board<Work>, Seat<Work>, [u32; 3]), NoMemory>
     requires { HasStepToCome p.now (level_of level ∷ []) }
     ensures { IfOk result (λ r. (basis : ground_of) × (shape : form) × (xs : List (boxed lot)) × IsOpened basis 0 Step p.now shape xs r.0 r.1) }
 {
@@ -133,32 +161,35 @@ fn stages(alloc: Global, mut ended: Ended<Work>, count: u32) -> Result<Vec<Stage
     Ok(all)
 }
 
-/// How far one worker gets with each patch of level 0 in the first step of a problem.
+/// How far one worker gets with each patch of level 0 in the first step of a problem, and how many places there are.
 fn stages_after<R: Threads + Wait + Sync>(
     rt: &R,
     alloc: Global,
     p: &Problem,
-) -> Result<Vec<Stage>, NoMemory>
+) -> Result<(Vec<Stage>, [u32; 3]), NoMemory>
     requires { 0 < p.now.steps }
 {
     let level = start_level(alloc, p)?;
-    let (board, seat) = open_level(rt, alloc, p, level)?;
+    let (board, seat, places) = open_level(rt, alloc, p, level)?;
     let count = board.tasks();
     let last = run_phase(rt, &board, seat, &LevelWork { problem: p }, &OpenGate, 1);
-    stages(alloc, board.close(last), count)
+    let all = stages(alloc, board.close(last), count)?;
+    Ok((all, places))
 }
 
 /// The tasks are drawn in order, 0 to 2. Each reads what the patch at its high side puts, which for the last one is the first. So the
-/// first two stop at a face that is not there yet, and the last one finds all. After a step by one worker the mass is a column on.
+/// first two stop at a face that is not there yet, and the last one finds all. Those are nine places; between groups of two patches
+/// there are six, and round all three none. After a step by one worker the mass is a column on.
 #[test]
 fn last_task_alone_is_finished(rt: HostRuntime) -> Result<(), Fail> {
     let alloc = rt.alloc();
     let p = nine_columns(alloc)?;
-    let all = stages_after(&rt, alloc, &p)?;
+    let (all, places) = stages_after(&rt, alloc, &p)?;
     assert_eq!(rt;
         all.as_slice(),
         [Stage::Swept, Stage::Swept, Stage::Finished].as_slice()
     );
+    assert_eq!(rt; places, [9, 6, 0]);
     let masses = masses_after_a_step(&rt, alloc, &p, 1, &OpenGate)?;
     assert_eq!(rt; masses.as_slice(), [8, 0, 0, 0, 0, 0, 0, 0, 0].as_slice());
     Ok(())

@@ -9,4 +9,6 @@ mod disk;
 #[cfg(test)]
 mod io;
 #[cfg(test)]
+mod records;
+#[cfg(test)]
 mod store;

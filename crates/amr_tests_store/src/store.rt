@@ -4,7 +4,7 @@ ghost use Rattle.amr_store.specs.Created.{IsVersion};
 ghost use Rattle.amr_store.specs.Stands.{IsStoreReady, last_in, slot_size_in};
 
 use amr_disk::{Disk, MemDisk};
-use amr_store::{Found, Part, Store, StoreFault};
+use amr_store::{Found, Store, StoreFault};
 use std::alloc::Global;
 use std::process::Abort;
 use std::test::Fail;
@@ -20,22 +20,6 @@ fn older() -> [u8; 128] {
     let mut bytes = [0xA5; 128];
     bytes[0] = 0;
     bytes
-}
-
-// What opening a disk finds, short of the store.
-#[derive(Clone, Copy, Debug, PartialEq, Eq)]
-enum Seen {
-    Nothing,
-    Ready,
-    Damaged(Part),
-}
-
-fn shown(found: &Found) -> Seen {
-    match found {
-        Found::Nothing => Seen::Nothing,
-        Found::Ready(_) => Seen::Ready,
-        Found::Damaged(part) => Seen::Damaged(*part),
-    }
 }
 
 // The latest state that a disk holds.
@@ -86,53 +70,6 @@ fn put_is_seven_calls(rt: HostRuntime) -> Result<(), Fail> {
         (30, Some(3)),
     ] {
         assert_eq!(rt; last_before(rt.alloc(), stop)?, last, "stopped at {stop}");
-    }
-    Ok(())
-}
-
-// A store that is new, and then has two states.
-fn twice_put(rt: &(impl Abort + AllocGlobal), version: u32) -> Result<MemDisk, Fail>
-    requires { IsVersion version }
-{
-    let alloc = rt.alloc();
-    let mut disk = MemDisk::make(alloc, &[], 128, 64, &[], None)?;
-    let mut store = Store::create(alloc, &mut disk, &[112], 2, version)?;
-    assert!(rt; store.latest(alloc, &mut disk)?.is_none());
-    store.put(&mut disk, 1, &[8, 9])?;
-    store.put(&mut disk, 2, &[7])?;
-    assert_eq!(rt; store.last(), Some(2));
-    Ok(disk)
-}
-
-// A store of the one problem is found, with a second state that is the latest.
-fn is_found(
-    rt: &(impl Abort + AllocGlobal),
-    mut disk: MemDisk,
-    version: u32,
-    slot_size: u64,
-    latest: &[u8],
-) -> Result<(), Fail> {
-    match Store::open(rt.alloc(), &mut disk)? {
-        Found::Ready(mut store) => {
-            assert_eq!(rt;
-                (store.version(), store.slot_size(), store.last()),
-                (version, slot_size, Some(2))
-            );
-            assert_eq!(rt; store.problem(), [112].as_slice());
-            let bytes = store.latest(rt.alloc(), &mut disk)?;
-            assert!(rt; is_state(&bytes, latest));
-        }
-        Found::Nothing => assert!(rt; false),
-        Found::Damaged(_) => assert!(rt; false),
-    }
-    Ok(())
-}
-
-#[test]
-fn puts_are_found_again(rt: HostRuntime) -> Result<(), Fail> {
-    for version in [1, 2] {
-        let disk = twice_put(&rt, version)?;
-        is_found(&rt, disk, version, 2, &[7])?;
     }
     Ok(())
 }
@@ -219,14 +156,5 @@ fn failed_sync_shuts_the_store(rt: HostRuntime) -> Result<(), Fail> {
         let latest = latest_after_a_failed_sync(&rt, call)?;
         assert!(rt; is_state(&latest, want), "call {call}");
     }
-    Ok(())
-}
-
-#[test]
-fn failed_read_is_no_damage(rt: HostRuntime) -> Result<(), Fail> {
-    let alloc = rt.alloc();
-    let mut disk = MemDisk::make(alloc, &IMAGE, 128, 8, &[1], None)?;
-    assert!(rt; matches!(Store::open(alloc, &mut disk), Err(StoreFault::DiskFault)));
-    assert_eq!(rt; shown(&Store::open(alloc, &mut disk)?), Seen::Ready);
     Ok(())
 }

@@ -57,21 +57,30 @@ fn sum(rt: &impl Abort, core: &Core) -> u64 {
     core.total(0)
 }
 
-// How many puts and adds of the task that the worker holds are made.
-fn made(core: &Core, worker: u32) -> Option<(u64, u64)> {
-    core.hold_of(worker).map(|held| (held.puts, held.adds))
+// Makes these steps, each of which the core takes or refuses.
+fn follow(rt: &impl Abort, core: &mut Core, steps: &[(Event, bool)]) {
+    for step in steps {
+        let (event, taken) = *step;
+        assert_eq!(rt; core.step(event), taken, "{event:?}");
+    }
 }
 
 #[test]
 fn limits_of_a_plan(rt: HostRuntime) -> Result<(), Fail> {
     let alloc = rt.alloc();
     let large = 1u64 << 62;
-    assert!(rt; Plan::try_new(0, 1, adding(alloc, large, large)?).is_none());
-    assert!(rt; Plan::try_new(0, 1, adding(alloc, large, large - 1)?).is_some());
-    assert!(rt; Plan::try_new(0, 0, adding(alloc, 1, 1)?).is_none());
-    assert!(rt; Plan::try_new(2, 1, putting(alloc, 1, 1)?).is_none());
-    assert!(rt; Plan::try_new(2, 1, putting(alloc, 0, 2)?).is_none());
-    assert!(rt; Plan::try_new(2, 1, putting(alloc, 0, 1)?).is_some());
+    for (words, first, second, is_plan) in [
+        (1, large, large, false),
+        (1, large, large - 1, true),
+        (0, 1, 1, false),
+    ] {
+        let plan = Plan::try_new(0, words, adding(alloc, first, second)?);
+        assert_eq!(rt; plan.is_some(), is_plan, "{first} and {second}");
+    }
+    for (first, second, is_plan) in [(1, 1, false), (0, 2, false), (0, 1, true)] {
+        let plan = Plan::try_new(2, 1, putting(alloc, first, second)?);
+        assert_eq!(rt; plan.is_some(), is_plan, "{first} and {second}");
+    }
     Ok(())
 }
 
@@ -84,21 +93,37 @@ fn two_workers_in_either_order(rt: HostRuntime) -> Result<(), Fail> {
             panic!(rt; "no plan");
         };
         let mut core = Core::make(alloc, plan, 2)?;
-        assert!(rt; !core.step(Event::Take(first)));
-        assert!(rt; core.step(Event::Draw(first)) && core.step(Event::Draw(other)));
-        assert!(rt; !core.step(Event::Draw(first)) && !core.step(Event::Put(first)));
-        assert!(rt; core.step(Event::Take(other)) && core.step(Event::Take(first)));
-        assert!(rt; core.step(Event::Put(other)));
-        assert!(rt; made(&core, first) == Some((0, 0)) && made(&core, other) == Some((1, 0)));
+        let drawn = [
+            (Event::Take(first), false),
+            (Event::Draw(first), true),
+            (Event::Draw(other), true),
+            (Event::Draw(first), false),
+            (Event::Put(first), false),
+            (Event::Take(other), true),
+            (Event::Take(first), true),
+            (Event::Put(other), true),
+        ];
+        follow(&rt, &mut core, &drawn);
         look(&rt, &core, None, Some(9));
-        assert!(rt; core.step(Event::Face(first, 1)) && !core.step(Event::Face(first, 2)));
-        assert!(rt; core.step(Event::Put(first)) && !core.step(Event::Put(first)));
+        let put = [
+            (Event::Face(first, 1), true),
+            (Event::Face(first, 2), false),
+            (Event::Put(first), true),
+            (Event::Put(first), false),
+            (Event::Give(first), false),
+        ];
+        follow(&rt, &mut core, &put);
         look(&rt, &core, Some(0), Some(9));
-        assert!(rt; !core.step(Event::Give(first)));
-        assert!(rt; core.step(Event::Add(first)) && core.step(Event::Add(other)));
-        assert!(rt; core.step(Event::Give(other)) && !core.complete());
-        assert!(rt; core.step(Event::Give(first)) && core.complete());
-        assert!(rt; core.step(Event::Draw(first)) && !core.step(Event::Draw(first)));
+        let given = [
+            (Event::Add(first), true),
+            (Event::Add(other), true),
+            (Event::Give(other), true),
+            (Event::Give(first), true),
+            (Event::Draw(first), true),
+            (Event::Draw(first), false),
+        ];
+        follow(&rt, &mut core, &given);
+        assert!(rt; core.complete());
         assert_eq!(rt; sum(&rt, &core), 8);
     }
     Ok(())

@@ -3,8 +3,8 @@ use Rattle.std.proofs.Common.{◌≡◌, ◌∙◌, ℕ, ◌+◌, ◌*◌, ◌/�
 use Rattle.std.specs.Prelude.{slice_index, slice_index_or}
 use Rattle.std.proofs.lemmas.Int.{ints}
 use Rattle.std.proofs.lemmas.Bool.{false_from_ne_true}
-use Rattle.std.proofs.lemmas.List.{get_or-drop, get_or-take, length-drop, length-take-le}
-use Rattle.std.proofs.lemmas.List.Folds.{list_any_none}
+use Rattle.std.proofs.lemmas.List.{get_or-drop, get_or-take, length-drop, length-take-le, take-append-drop}
+use Rattle.std.proofs.lemmas.List.Folds.{list_any-append, list_any_none}
 use Rattle.std.proofs.Math.Bool.{or-false}
 use Rattle.amr_box.specs.declared.Cell.{Cell}
 use Rattle.amr_box.specs.Cells.{Extent, cell, child, has_child_where, holds}
@@ -14,7 +14,6 @@ use Rattle.amr_patch.specs.Patches.{box, in_patches, mass_in}
 use Rattle.amr_patch.proofs.Rows.{inside, is_inside}
 use Rattle.amr_transfer.specs.Sums.{children_in, four_at}
 use Rattle.amr_transfer.proofs.Fours.{four_of_first}
-use Rattle.amr_transfer.proofs.GivenRuns.{in_all}
 
 -- ---- the children of a row's cells in a fine patch
 
@@ -54,6 +53,10 @@ none_before ps n low c below le from = list_any_none (λ (p : Patch). holds (box
     let less : k < n = omega (arith, lt, length-take-le n ps le) in
     ap (λ (p : Patch). holds (box p) c) (get_or-take n ps k d less)
     ∙ false_from_ne_true (holds (box (slice_index_or ps k d)) c) (λ h. let i = inside (box (slice_index_or ps k d)) c h in omega (arith, ints, i.north, below k d less, from)))
+
+-- a cell is of a patch before a place or of one from it on
+in_all : (ps : List Patch) (n : ℕ) (c : Cell) → in_patches ps c ≡ (in_patches (take n ps) c || in_patches (drop n ps) c)
+in_all ps n c = ap (λ (qs : List Patch). in_patches qs c) (sym (take-append-drop n ps)) ∙ list_any-append (λ (p : Patch). holds (box p) c) (take n ps) (drop n ps)
 
 -- those from a place on have none in rows up to `high`
 none_after : (ps : List Patch) (n : ℕ) (high : ℤ) (c : Cell) → ((k : ℕ) (p : Patch) → n ≤ k → k < length ps → high <ℤ (box (slice_index_or ps k p)).lo.y) → c.y ≤ℤ high → in_patches (take n ps) c ≡ in_patches ps c

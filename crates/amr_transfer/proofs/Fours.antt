@@ -37,12 +37,6 @@ four_is p c lower upper from k low l u same lt =
     let f = get_or-drop (2 * from) upper (2 * k + 1) 0 ∙ u.at (2 * from + (2 * k + 1)) (omega (arith, same, east)) ∙ ap (λ (z : ℤ). mass_in p (cell z (c.y +ℤ c.y +ℤ pos 1))) x1 in
     λ i. a i + b i + e i + f i
 
--- the same from the start of the rows
-pub four_at_start : (p : Patch) (c : Cell) (lower upper : List ℕ) (k : ℕ) → c.x +ℤ c.x ≡ (box p).lo.x → IsRow p (c.y +ℤ c.y +ℤ pos 0) lower → IsRow p (c.y +ℤ c.y +ℤ pos 1) upper → 2 * k + 1 < length lower → four_at lower upper k ≡ children_in p (cell (c.x +ℤ pos k) c.y)
-four_at_start p c lower upper k low l u lt =
-    let x : c.x +ℤ pos 0 +ℤ pos k ≡ c.x +ℤ pos k = omega (arith, ints) in
-    four_is p c lower upper 0 k low l u (u.count ∙ sym l.count) (omega (arith, lt)) ∙ ap (λ (z : ℤ). children_in p (cell z c.y)) x
-
 -- the rest of a row
 pub rest_is : (xs : List ℕ) (m : ℕ) → take (length xs - m) (drop m xs) ≡ drop m xs
 rest_is xs m = take_all (length xs - m) (drop m xs) (omega (arith, length-drop m xs))

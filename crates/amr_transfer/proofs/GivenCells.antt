@@ -12,7 +12,7 @@ use Rattle.amr_patch.proofs.Entries.{in_grown, in_the_frame}
 use Rattle.amr_patch.proofs.LevelLaws.{itself}
 use Rattle.amr_patch.proofs.Keeping.{kept_twice}
 use Rattle.amr_transfer.specs.Given.{IsGiven, span}
-use Rattle.amr_transfer.proofs.Spans.{in_span, off_span, span_inside}
+use Rattle.amr_transfer.proofs.RowSpans.{in_span, off_span, span_inside}
 
 -- ---- what stays
 

@@ -12,7 +12,7 @@ use Rattle.amr_patch.proofs.Lookups.{some_mass}
 use Rattle.amr_transfer.specs.Given.{IsGiven, HasOldMasses, span}
 use Rattle.amr_transfer.proofs.GivenCells.{given_as, given_more, given_none, still_held}
 use Rattle.amr_transfer.proofs.PatchLists.{mass_there}
-use Rattle.amr_transfer.proofs.Spans.{span_inside}
+use Rattle.amr_transfer.proofs.RowSpans.{span_inside}
 
 pub kept_none : (old : Masses) (cells : Cell → Bool) (p : Patch) → ((c : Cell) → IsTrue (holds (box p) c) → cells c ≡ false) → HasOldMasses old cells p p
 kept_none old cells p none = record {

@@ -1,4 +1,4 @@
-pub mod Spans
+pub mod RowSpans
 pub mod GivenCells
 pub mod PatchLists
 pub mod PatchChunks
@@ -8,8 +8,4 @@ pub mod Halves
 pub mod Fours
 pub mod KeptOrSplit
 pub mod BoxRows
-pub mod ListParts
-pub mod ByRows
-pub mod PackedSums
-pub mod GivenRuns
 pub mod Covers

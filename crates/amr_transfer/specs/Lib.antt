@@ -1,4 +1,3 @@
 pub mod Given
 pub mod Shares
 pub mod Sums
-pub mod Packed

@@ -1,9 +1,9 @@
 -- The masses of the cells that a finer level covers, as sums of its own. (AMReX: average_down, of masses and not of densities)
-use Rattle.std.specs.Prelude.{◌≡◌, ℕ, ◌+◌, ◌*◌, ◌<◌, cond, ℤ, pos, ◌+ℤ◌, List, length, slice_index}
+use Rattle.std.specs.Prelude.{◌≡◌, ℕ, ◌+◌, ◌*◌, ◌<◌, ◌^◌, cond, ℤ, pos, ◌+ℤ◌, List, length, slice_index, IsTrue}
 use Rattle.std.specs.declared.option.Option.TheVariants.{Some}
 use Rattle.std.specs.List.{All}
 use Rattle.amr_box.specs.declared.Cell.{Cell}
-use Rattle.amr_box.specs.Cells.{cell, child, width}
+use Rattle.amr_box.specs.Cells.{cell, child, holds, width}
 use Rattle.amr_def.specs.Facts.{IsAligned}
 use Rattle.amr_def.specs.State.{Masses, children_mass, is_covered}
 use Rattle.amr_patch.specs.declared.patches.Patch.{Patch}
@@ -20,6 +20,10 @@ AreCoarsenable ps = All (λ p. IsAligned 2 (box p)) ps
 -- the mass that a patch has of the children of a cell
 abbrev pub children_in : Patch → Cell → ℕ
 children_in p c = mass_in p (child c 0) + mass_in p (child c 1) + mass_in p (child c 2) + mass_in p (child c 3)
+
+-- each sum of a patch's fours is below 2^32
+abbrev pub HasSmallSums : Patch → Type 0
+HasSmallSums q = (c : Cell) → IsTrue (holds (box q) (child c 0)) → children_in q c < 2 ^ 32
 
 -- the masses of a row of a patch, from its low column to its high one
 pub record IsRow (p : Patch) (y : ℤ) (ms : List ℕ) : Type 0 where

@@ -6,10 +6,10 @@ ghost use Rattle.amr_trial.specs.Laws.{BlocksLieInside, CourantNumbersFit, Texts
 ghost use Rattle.amr_trial.specs.Laws.{TextsAreShort, TextsAreUtf8, TrialsHaveSixteenSteps};
 
 mod digest;
+mod fragments;
 mod generator;
 mod line;
 mod problem;
-mod writing;
 
 pub use digest::DigestSink;
 pub use generator::Generator;

@@ -8,7 +8,7 @@ ghost use Rattle.amr_patch.specs.Meshes.{is_spent, state_of};
 ghost use Rattle.amr_trial.specs.Summary.{box_count, summary};
 
 use crate::DigestSink;
-use crate::writing::put;
+use crate::fragments::put;
 use amr_causes::NoMemory;
 use amr_def::Problem;
 use amr_io::Fragment;

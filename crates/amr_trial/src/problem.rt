@@ -6,7 +6,7 @@ ghost use Rattle.amr_trial.specs.Trial.{IsSize, block_from, block_text, text};
 ghost use Rattle.amr_trial.specs.Parts.{blocks_line, head, more_blocks};
 
 use crate::Generator;
-use crate::writing::put;
+use crate::fragments::put;
 use amr_causes::NoMemory;
 use amr_def::Block;
 use amr_io::Fragment;

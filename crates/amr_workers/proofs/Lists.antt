@@ -1,7 +1,7 @@
 -- Two lists, element by element.
-use Rattle.std.proofs.Common.{◌≡◌, ℕ, suc, ◌+◌, ◌<◌, ◌≤◌, List, [], ◌∷◌, ◌++◌, length, get_or, set, below_more, length-set, refl, sym, ◌∙◌, subst, arith}
+use Rattle.std.proofs.Common.{◌≡◌, ℕ, suc, ◌+◌, ◌<◌, ◌≤◌, List, [], ◌∷◌, ◌++◌, length, get_or, set, below_more, length-set, refl, sym, ◌∙◌, ap, subst, arith}
 use Rattle.std.specs.List.{AllZip}
-use Rattle.std.proofs.lemmas.List.{get_or-set_same, get_or-set_other, get_or_default}
+use Rattle.std.proofs.lemmas.List.{get_or-set_same, get_or-set_other, get_or_append_left, get_or_default, get_or_push}
 
 module _ {X : Type 0} (R : X → X → Type 0) where
   -- of two lists, elements in turn
@@ -49,3 +49,9 @@ module _ {X : Type 0} (R : X → X → Type 0) where
   pub zip_parts : (all xs : List X) (x : X) (ys : List X) (y : X) (whole : List X) → all ≡ xs ++ x ∷ [] → whole ≡ ys ++ y ∷ [] → AllZip R all whole → AllZip R xs ys × R x y
   zip_parts all xs x ys y whole is is' h =
       zip_init xs ys x y (subst (λ (l : List X). AllZip R (xs ++ x ∷ []) l) is' (subst (λ (l : List X). AllZip R l whole) is h))
+
+-- elements that have their places as numbers, from 1 on, where one more comes
+pub one_numbered : {X : Type 0} (number : X → ℕ) (xs : List X) (x : X) (n : ℕ) → length xs ≡ n → ((k : ℕ) (d : X) → k < n → number (get_or xs k d) ≡ 1 + k) → number x ≡ 1 + n → (k : ℕ) (d : X) → k < n + 1 → number (get_or (xs ++ x ∷ []) k d) ≡ 1 + k
+one_numbered number xs x n count so_far last k d lt =
+    below_more (λ j. number (get_or (xs ++ x ∷ []) j d) ≡ 1 + j) n (λ j l. ap number (get_or_append_left xs (x ∷ []) d j (omega (arith, l, count))) ∙ so_far j d l)
+    (ap number (get_or_push xs x d n count) ∙ last) k lt

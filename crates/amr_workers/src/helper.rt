@@ -39,6 +39,7 @@ pub(crate) fn new_worker<P: Piece, J: Job<P>, G: Gate>(
 ) -> Result<(Helper<P, J, G>, Recruit<P, J, G>), AllocError>
     ensures helper { IfOk result (λ r. (workers : ℕ) → number < workers → IsHelper job.now gate.now workers (arc_value r.0.mailbox) r.0.asker) }
     ensures recruit { IfOk result (λ r. IsRecruit job.now gate.now (arc_value r.1.mailbox) r.1.worker r.1.number) }
+    ensures number { IfOk result (λ r. r.1.number ≡ number) }
 {
     let about = About {
         job: Snapshot::of(job),

@@ -13,7 +13,7 @@ ghost use Rattle.amr_mailbox.specs.declared.view.Turn.TheVariants.{Free, Over};
 ghost use Rattle.amr_mailbox.specs.MailboxOf.{end_of};
 ghost use Rattle.amr_workers.specs.Asked.{IsOut, Keeps};
 ghost use Rattle.amr_workers.specs.Orders.{MayDraw, HasDrawn, IsReady, Admits, MayAsk, Serves};
-ghost use Rattle.amr_workers.specs.Helpers.{AdmitsWorker, IsHelper, IsRecruit};
+ghost use Rattle.amr_workers.specs.Helpers.{AdmitsWorker, HaveNumbers, IsHelper, IsRecruit};
 ghost use Rattle.amr_workers.specs.Shares.{MayLend, whole};
 
 use crate::asked::Asked;
@@ -61,8 +61,8 @@ impl<'a, P: Piece, J: Job<P>, G: Gate> Model for Team<'a, P, J, G> {
 }
 
 impl<'a, P: Piece, J: Job<P>, G: Gate> Team<'a, P, J, G> {
-    /// A team of so many workers, its caller among them, and those that have to begin ([`serve_all`](crate::serve_all)).
-    /// All memory is taken here.
+    /// A team of so many workers, its caller among them, and those that have to begin ([`serve_all`](crate::serve_all)), with
+    /// numbers from 1 on. All memory is taken here.
     pub fn hire(
         alloc: Global,
         job: &'a J,
@@ -73,6 +73,7 @@ impl<'a, P: Piece, J: Job<P>, G: Gate> Team<'a, P, J, G> {
         requires few { workers ≤ 64 }
         ensures team { IfOk result (λ r. r.0 ≡ record { job = job.now; gate = gate.now; workers = workers }) }
         ensures recruits { IfOk result (λ r. All (λ h. IsRecruit job.now gate.now (arc_value h.mailbox) h.worker h.number) r.1.items) }
+        ensures numbers { IfOk result (λ r. HaveNumbers workers r.1.items) }
     {
         let mut helpers = Vec::new(alloc);
         let mut recruits = Vec::new(alloc);

@@ -8,7 +8,7 @@ use Rattle.amr_lots.specs.declared.lot.Duty.TheVariants.{Keep}
 use Rattle.amr_lots.specs.declared.lot.Lot.{Lot}
 use Rattle.amr_lots.specs.Runs.{KeepAllButBefore, KeepOthers, run}
 use Rattle.amr_lots.specs.Serving.{IsServed, MayServe}
-use Rattle.amr_advance.proofs.KeptRuns.{AreServed, AreTraded, KeepRuns, all_carry, all_traded, all_valued, counts, few_lots, lots_kept, same_count, several_of}
+use Rattle.amr_advance.proofs.KeptRuns.{AreServed, AreTraded, KeepRuns, all_traded, counts, few_lots, same_count, several_of, still_serve}
 use Rattle.amr_advance.proofs.LotCounts.{few_runs, fewer_tasks}
 use Rattle.amr_advance.proofs.KeptMasses.{AreTradedBefore, all_copied, all_may_keep, all_new, all_traded_before, before_back, before_counts, patches_back, same_patches}
 use Rattle.amr_advance.proofs.before.keep_in_lots.Given as given
@@ -117,12 +117,4 @@ returns-clause-copied g c =
     all_copied c.args.patches.now c.args.before.now c.requires.lots c.requires.boxes (traded g at.After-exchange_runs) (given_before g at.After-exchange_before) (served g at.After-serve_lots) (back_before g at.After-exchange_before-2)
 
 pub returns-clause-lots : goal.returns-clause-lots
-returns-clause-lots g c =
-    let t = c.args.lots.now in
-    let xs = with_items (with_items c.serve_lots.new.lots c.exchange_before-2.new.lots) c.exchange_runs-2.new.lots in
-    let same = kept g (goal.at.returns-clause-lots g c).After-exchange_runs-2 in
-    record {
-      lots = lots_kept t xs t.packed c.requires.lots.several same.count same;
-      current = λ M current packed. all_carry M t.lots.items xs.items same (current packed);
-      valued = λ p l old values valued. all_valued p l old t.lots.items xs.items same (values valued);
-    }
+returns-clause-lots g c = still_serve c.args.lots.now (with_items (with_items c.serve_lots.new.lots c.exchange_before-2.new.lots) c.exchange_runs-2.new.lots) c.requires.lots.several (kept g (goal.at.returns-clause-lots g c).After-exchange_runs-2)

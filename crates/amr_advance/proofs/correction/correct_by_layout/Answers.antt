@@ -1,13 +1,14 @@
 use Rattle.std.proofs.Common.{◌∙◌, map, sym, ap, subst}
-use Rattle.std.specs.Prelude.{IfSome}
+use Rattle.std.specs.Prelude.{if◌then◌else◌, IfSome}
 use Rattle.std.specs.declared.option.Option.{Option}
-use Rattle.std.proofs.lemmas.Result.{IfOk-weaker, on_ok_weaker}
-use Rattle.amr_patch.specs.Levels.{patches_of}
+use Rattle.std.specs.declared.option.Option.TheVariants.{Some}
+use Rattle.std.proofs.lemmas.Result.{IfOk-weaker}
+use Rattle.amr_patch.specs.Levels.{level_of, patches_of}
 use Rattle.amr_patch.specs.Patches.{box}
 use Rattle.amr_advance.specs.declared.kept.KeptLayout.{KeptLayout}
-use Rattle.amr_advance.specs.Kept.{IsCurrentLayout, IsKeptLayout, IsValued}
+use Rattle.amr_advance.specs.Kept.{IsKeptLayout, StaysKept}
 use Rattle.amr_advance.proofs.Corrected.{not_tried}
-use Rattle.amr_advance.proofs.KeptLaws.{kept_with, lots_for}
+use Rattle.amr_advance.proofs.KeptLaws.{lots_for, stays_kept}
 use Rattle.amr_advance.proofs.correction.correct_by_layout.Goals as goal
 
 pub returns-in_default-clause-tried : goal.returns-in_default-clause-tried
@@ -26,12 +27,4 @@ correct_by_workers-requires-clause-lots g c κs within =
 
 pub returns-clause-kept : goal.returns-clause-kept
 returns-clause-kept g c =
-    on_ok_weaker c.correct_by_workers.result (λ still. kept_with c.args.p.now c.in-Some.layout c.correct_by_workers.new.lots still.lots (subst (λ (o : Option KeptLayout). IfSome o (IsKeptLayout c.args.p.now)) c.in-Some.is c.requires.kept)) c.correct_by_workers.ensures.lots
-
-pub returns-clause-still_current : goal.returns-clause-still_current
-returns-clause-still_current g c =
-    IfOk-weaker c.correct_by_workers.result _ _ (λ x still undone M before. (still undone).current M (subst (λ (o : Option KeptLayout). IfSome o (IsCurrentLayout M)) c.in-Some.is before)) c.correct_by_workers.ensures.still_current
-
-pub returns-clause-valued : goal.returns-clause-valued
-returns-clause-valued g c =
-    on_ok_weaker c.correct_by_workers.result (λ still l old before. still.valued c.args.p.now l old (subst (λ (o : Option KeptLayout). IfSome o (IsValued c.args.p.now l old)) c.in-Some.is before)) c.correct_by_workers.ensures.lots
+    IfOk-weaker c.correct_by_workers.result _ _ (λ x still. subst (λ (o : Option KeptLayout). StaysKept (λ own. (if x.done then (level_of c.correct_by_workers.new.level).masses else own)) o (Some (record c.in-Some.layout { lots = c.correct_by_workers.new.lots }))) (sym c.in-Some.is) (stays_kept (λ own. (if x.done then (level_of c.correct_by_workers.new.level).masses else own)) c.in-Some.layout c.correct_by_workers.new.lots still)) c.correct_by_workers.ensures.lots

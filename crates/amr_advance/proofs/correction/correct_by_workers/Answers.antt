@@ -1,5 +1,5 @@
 use Rattle.std.proofs.Common.{◌≡◌, ◌∙◌, ◌^◌, true, pos, ◌+ℤ◌, ◌≤ℤ◌, ◌<ℤ◌, List, map, sym, ap, subst}
-use Rattle.std.specs.Prelude.{is_some}
+use Rattle.std.specs.Prelude.{if◌then◌else◌, is_some}
 use Rattle.std.specs.List.{All, Contains}
 use Rattle.std.specs.Vec.{with_items}
 use Rattle.std.proofs.lemmas.List.{with_items_is}
@@ -17,7 +17,7 @@ use Rattle.amr_register.specs.Entries.{with_entries}
 use Rattle.amr_register.specs.Registers.{HasEdgesOf, cells_in, entry_in}
 use Rattle.amr_transfer.specs.Sums.{summed}
 use Rattle.amr_lots.specs.Correcting.{FitsEntries, finer_in, register_in}
-use Rattle.amr_advance.specs.Lots.{AreLotsCurrent}
+use Rattle.amr_advance.specs.Lots.{StillServe}
 use Rattle.amr_advance.proofs.Corrected.{corrected_level, fits_each, tried_kept}
 use Rattle.amr_advance.proofs.correction.correct_by_workers.Given as given
 use Rattle.amr_advance.proofs.correction.correct_by_workers.Goals.{After-correct_in_lots-done, After-deref_mut}
@@ -101,7 +101,7 @@ returns-clause-tried g c =
           ∙ ap (map box) c.take_patches-patches.ensures.all;
     }
 
-pub returns-clause-current : goal.returns-clause-current
-returns-clause-current g c is_done =
-    let same = c.put_patches_in_order.ensures.masses ∙ ap (λ (qs : List Patch). masses_in qs) (put g (goal.at.returns-clause-current g c).After-correct_in_lots-done) in
-    subst (λ (m : Masses). AreLotsCurrent m c.correct_in_lots-done.new.lots) (sym same) (c.correct_in_lots-done.ensures.current is_done)
+pub returns-clause-lots : goal.returns-clause-lots
+returns-clause-lots g c =
+    let same = c.put_patches_in_order.ensures.masses ∙ ap (λ (qs : List Patch). masses_in qs) (put g (goal.at.returns-clause-lots g c).After-correct_in_lots-done) in
+    subst (λ (m : Masses). StillServe (λ own. (if c.correct_in_lots-done.result then m else own)) c.args.lots.now c.correct_in_lots-done.new.lots) (sym same) c.correct_in_lots-done.ensures.lots

@@ -1,4 +1,4 @@
-use Rattle.std.proofs.Common.{◌≡◌, ℕ, ◌*◌, ◌^◌, ◌<◌, true, List, length, get_or, sym, subst, arith}
+use Rattle.std.proofs.Common.{◌≡◌, ℕ, ◌*◌, ◌^◌, ◌<◌, List, length, get_or, sym, subst, arith}
 use Rattle.std.specs.Global.{Box}
 use Rattle.std.specs.List.{All, AllZip}
 use Rattle.std.specs.Vec.{with_items}
@@ -6,10 +6,11 @@ use Rattle.std.proofs.lemmas.List.Elements.{length_all_zip}
 use Rattle.amr_lots.specs.declared.lot.Duty.{Duty}
 use Rattle.amr_lots.specs.declared.lot.Duty.TheVariants.{Correct}
 use Rattle.amr_lots.specs.declared.lot.Lot.{Lot}
+use Rattle.amr_patch.specs.Patches.{masses_in}
 use Rattle.amr_lots.specs.Runs.{KeepOthers, run}
 use Rattle.amr_lots.specs.Serving.{IsServed, MayServe}
 use Rattle.amr_advance.specs.Correction.{KeepsAllButCorrection}
-use Rattle.amr_advance.proofs.KeptRuns.{AreServed, AreTraded, KeepRuns, PackRuns, all_carry, all_traded, all_valued, lots_kept, lots_packed, packed_valued, few_lots, same_count, several_of}
+use Rattle.amr_advance.proofs.KeptRuns.{AreServed, AreTraded, KeepRuns, PackRuns, all_traded, few_lots, now_serve, same_count, several_of, still_serve}
 use Rattle.amr_advance.proofs.CorrectedLots.{AreGivenBack, AreLentParts, IsGivenBack, all_corrected, all_current, all_given_back, all_may_correct, all_new, counts_back, lent_counts, lent_small}
 use Rattle.amr_advance.proofs.LotCounts.{few_runs, fewer_tasks}
 use Rattle.amr_advance.proofs.LotsHanded.{when_lent}
@@ -99,22 +100,7 @@ exchange_runs-requires-in-Ok g c =
     }
 
 pub returns-in-Err-clause-lots : goal.returns-in-Err-clause-lots
-returns-in-Err-clause-lots g c =
-    let t = c.args.lots.now in
-    let xs = with_items (with_items t.lots c.lend.new.lots) c.take_back.new.lots in
-    let kept = undone g (goal.at.returns-in-Err-clause-lots g c).After-take_back in
-    record { lots = lots_kept t xs t.packed c.requires.lots.several kept.count kept; valued = λ p l old values valued. all_valued p l old t.lots.items xs.items kept (values valued) }
-
-pub returns-in-Err-clause-still_current : goal.returns-in-Err-clause-still_current
-returns-in-Err-clause-still_current g c _ =
-    let t = c.args.lots.now in
-    let xs = with_items (with_items t.lots c.lend.new.lots) c.take_back.new.lots in
-    let kept = undone g (goal.at.returns-in-Err-clause-still_current g c).After-take_back in
-    record {
-      lots = lots_kept t xs t.packed c.requires.lots.several kept.count kept;
-      current = λ M current packed. all_carry M t.lots.items xs.items kept (current packed);
-      valued = λ p l old values valued. all_valued p l old t.lots.items xs.items kept (values valued);
-    }
+returns-in-Err-clause-lots g c = still_serve c.args.lots.now (with_items (with_items c.args.lots.now.lots c.lend.new.lots) c.take_back.new.lots) c.requires.lots.several (undone g (goal.at.returns-in-Err-clause-lots g c).After-take_back)
 
 pub returns-in-Ok-clause-corrected : goal.returns-in-Ok-clause-corrected
 returns-in-Ok-clause-corrected g c _ =
@@ -123,13 +109,6 @@ returns-in-Ok-clause-corrected g c _ =
 
 pub returns-in-Ok-clause-lots : goal.returns-in-Ok-clause-lots
 returns-in-Ok-clause-lots g c =
-    let t = c.args.lots.now in
-    let xs = with_items (with_items c.serve_lots.new.lots c.exchange_runs-in-Ok.new.lots) c.take_back-in-Ok.new.lots in
-    let rs = c.exchange_runs-in-Ok.new.patches in
-    let packed = done g (goal.at.returns-in-Ok-clause-lots g c).After-take_back-in-Ok in
-    record { lots = lots_packed t xs true c.requires.lots.several packed.count rs packed; valued = λ p l old values valued. packed_valued p l old t.each rs t.lots.items xs.items packed (values valued) }
-
-pub returns-in-Ok-clause-current : goal.returns-in-Ok-clause-current
-returns-in-Ok-clause-current g c _ packed =
-    let at = goal.at.returns-in-Ok-clause-current g c in
-    all_current c.args.patches.now c.args.whole.now c.requires.lots (lent g at.After-deref_mut-in-Ok) (traded g at.After-exchange_runs) (served g at.After-serve_lots) (returned g at.After-exchange_runs-in-Ok) (given_back g at.After-take_back-in-Ok) c.requires.apart
+    let at = goal.at.returns-in-Ok-clause-lots g c in
+    now_serve c.args.lots.now (with_items (with_items c.serve_lots.new.lots c.exchange_runs-in-Ok.new.lots) c.take_back-in-Ok.new.lots) (masses_in c.exchange_runs-in-Ok.new.patches) c.exchange_runs-in-Ok.new.patches c.requires.lots.several (done g at.After-take_back-in-Ok)
+    (all_current c.args.patches.now c.args.whole.now c.requires.lots (lent g at.After-deref_mut-in-Ok) (traded g at.After-exchange_runs) (served g at.After-serve_lots) (returned g at.After-exchange_runs-in-Ok) (given_back g at.After-take_back-in-Ok) c.requires.apart)

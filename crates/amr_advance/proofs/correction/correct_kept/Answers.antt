@@ -1,5 +1,6 @@
-use Rattle.std.proofs.Common.{◌≡◌, ◌∙◌, ◌^◌, true, pos, ◌+ℤ◌, ◌≤ℤ◌, ◌<ℤ◌, List, map, sym, subst}
-use Rattle.std.specs.Prelude.{is_some}
+use Rattle.std.proofs.Common.{◌≡◌, ◌∙◌, ◌^◌, true, pos, ◌+ℤ◌, ◌≤ℤ◌, ◌<ℤ◌, List, map, refl, sym, subst}
+use Rattle.std.specs.Prelude.{if◌then◌else◌, is_some}
+use Rattle.std.proofs.lemmas.Bool.{false≢true}
 use Rattle.std.specs.List.{Contains}
 use Rattle.amr_box.specs.declared.Cell.{Cell}
 use Rattle.amr_box.specs.Cells.{Extent}
@@ -11,6 +12,7 @@ use Rattle.amr_register.specs.declared.register.Register.{Register}
 use Rattle.amr_register.specs.Entries.{with_entries}
 use Rattle.amr_register.specs.Registers.{HasEdgesOf, IsPlaced, cells_in, entry_in}
 use Rattle.amr_transfer.specs.Sums.{summed}
+use Rattle.amr_advance.specs.Kept.{StaysKept}
 use Rattle.amr_advance.proofs.correction.correct_kept.Goals as goal
 
 pub reflux-requires-clause-placed : goal.reflux-requires-clause-placed
@@ -57,3 +59,13 @@ returns-clause-corrected g c =
           ∙ kept_boxes (patches_of c.correct_by_layout.new.level) (patches_of c.reflux.new.level) c.reflux.ensures.patches
           ∙ tried.patches;
     }
+
+-- what is kept of the level is of its corrected masses
+pub returns-then-corrected-clause-kept : goal.returns-then-corrected-clause-kept
+returns-then-corrected-clause-kept g c =
+    subst (λ b. StaysKept (λ own. (if b then (level_of c.correct_by_layout.new.level).masses else own)) c.args.kept.now c.correct_by_layout.new.kept) c.if-corrected.true c.in_ok-corrected.ensures.kept
+
+pub returns-clause-kept : goal.returns-clause-kept
+returns-clause-kept g c = λ p l own old h.
+    c.forget.ensures p l own old (level_of c.sum_up.new.coarse).masses old (λ is. absurd (false≢true (sym is))) (λ _. refl)
+    (subst (λ b. StaysKept (λ own. (if b then (level_of c.correct_by_layout.new.level).masses else own)) c.args.kept.now c.correct_by_layout.new.kept) c.if-corrected.false c.in_ok-corrected.ensures.kept p l own old h)

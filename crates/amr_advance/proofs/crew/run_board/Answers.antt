@@ -1,8 +1,12 @@
-use Rattle.std.proofs.Common.{IfSome, sym, subst, arith}
+use Rattle.std.proofs.Common.{IfSome, sym, subst}
 use Rattle.amr_def.specs.declared.problem.Problem.{Problem}
 use Rattle.amr_lots.specs.Ready.{MayBegin}
 use Rattle.amr_advance.specs.Crews.{IsTeamFor}
+use Rattle.amr_advance.proofs.WorkSends.{works_sendable}
 use Rattle.amr_advance.proofs.crew.run_board.Goals as goal
+
+pub run_phase-last-requires-send-P : goal.run_phase-last-requires-send-P
+run_phase-last-requires-send-P g c κs within = search works_sendable depth 12 fits 2000
 
 pub run_phase-requires-clause-ready : goal.run_phase-requires-clause-ready
 run_phase-requires-clause-ready g c = λ t w at.

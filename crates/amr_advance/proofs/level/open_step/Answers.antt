@@ -1,4 +1,4 @@
-use Rattle.std.proofs.Common.{◌≡◌, ◌∙◌, ℕ, ◌<◌, ◌^◌, List, length, get_or, refl, sym, ap, subst, arith}
+use Rattle.std.proofs.Common.{◌≡◌, ℕ, ◌<◌, List, length, get_or, refl, sym, subst, arith}
 use Rattle.std.specs.Global.{Box}
 use Rattle.std.specs.List.{All}
 use Rattle.std.specs.Option.{option_copied}
@@ -27,7 +27,7 @@ use Rattle.amr_advance.proofs.level.open_step.Goals as goal
 -- ---- the stages of the step
 
 in_its_step : (g : given.Over) (c : After-exchange_runs g) → IsInStep c.args.given.problem.now c.args.given.level (old_masses (option_copied c.args.given.old)) c.args.patches.now c.args.given.cells.now (option_copied c.args.given.finer) c.args.lots.now
-in_its_step g c = in_step c.args.given.problem.now c.args.given.level (old_masses (option_copied c.args.given.old)) c.args.patches.now c.args.given.cells.now (option_copied c.args.given.finer) c.args.lots.now c.requires.level c.requires.lots.lots
+in_its_step g c = in_step c.args.given.problem.now c.args.given.level (old_masses (option_copied c.args.given.old)) c.args.patches.now c.args.given.cells.now (option_copied c.args.given.finer) c.args.lots.now c.requires.step.level c.requires.lots.lots
 
 handed : (g : given.Over) (c : After-exchange_runs g) → AreHanded c.args.lots.now.each c.args.patches.now c.args.lots.now.lots.items (with_items c.args.lots.now.lots c.exchange_runs.new.lots).items
 handed g c =
@@ -57,7 +57,7 @@ sent g c =
     let at = goal.at.After-pack_lots g c in
     let level = in_its_step g at.After-exchange_runs in
     let first = first_lots level (several level c.requires.several c.requires.lots.values) c.requires.lots.values in
-    sent_from level (with_runs g at.After-exchange_lists) (still_carried level first (handed g at.After-exchange_runs) (lent g at.After-exchange_lists) (masses_in c.args.patches.now)) c.requires.lots.current c.pack_lots.new.lots.lots.items
+    sent_from level (with_runs g at.After-exchange_lists) (still_carried level first (handed g at.After-exchange_runs) (lent g at.After-exchange_lists) (masses_in c.args.patches.now)) c.requires.lots.packed c.pack_lots.new.lots.lots.items
     (λ packed i. (c.pack_lots.ensures.packed packed i).lots.items) c.pack_lots.ensures.sent
 
 handed_over : (g : given.Over) (c : After-exchange_messages g) → HaveBeenHanded c.args.lots.now c.args.patches.now c.exchange_runs.new.patches c.args.edges.now c.exchange_lists.new.edges (with_items c.pack_lots.new.lots.lots c.exchange_messages.new.lots).items
@@ -82,7 +82,7 @@ handed_over g c =
 pub exchange_runs-requires : goal.exchange_runs-requires
 exchange_runs-requires g c = record {
   counts = subst (λ (ys : List (Box Lot)). (k : ℕ) (x : Box Lot) → k < length ys → length (get_or ys k x).value.patches.items ≡ length (run c.args.lots.now.each k c.args.patches.now)) (sym c.deref_mut.ensures.value)
-      (let level = in_step c.args.given.problem.now c.args.given.level (old_masses (option_copied c.args.given.old)) c.args.patches.now c.args.given.cells.now (option_copied c.args.given.finer) c.args.lots.now c.requires.level c.requires.lots.lots in
+      (let level = in_step c.args.given.problem.now c.args.given.level (old_masses (option_copied c.args.given.old)) c.args.patches.now c.args.given.cells.now (option_copied c.args.given.finer) c.args.lots.now c.requires.step.level c.requires.lots.lots in
       first_counts level (several level c.requires.several c.requires.lots.values) c.requires.lots.values);
 }
 
@@ -98,7 +98,7 @@ exchange_lists-requires g c =
     }
 
 pub pack_lots-requires-clause-problem : goal.pack_lots-requires-clause-problem
-pack_lots-requires-clause-problem g c κs within = c.requires.basis.problem
+pack_lots-requires-clause-problem g c κs within = c.requires.step.basis.problem
 
 pub pack_lots-requires-clause-few : goal.pack_lots-requires-clause-few
 pack_lots-requires-clause-few g c κs within =
@@ -133,7 +133,7 @@ exchange_messages-requires g c =
 pub open_lots-requires-clause-few : goal.open_lots-requires-clause-few
 open_lots-requires-clause-few g c =
     let at = goal.at.open_lots-requires-clause-few g c in
-    let n = xs_count (in_its_step g at.After-exchange_runs) c.requires.several c.requires.lots.values (handed_over g at.After-exchange_messages) c.requires.edges c.requires.lots.current in
+    let n = xs_count (in_its_step g at.After-exchange_runs) c.requires.several c.requires.lots.values (handed_over g at.After-exchange_messages) c.requires.edges c.requires.lots.packed in
     let m = c.requires.lots.lots.many in
     omega (arith, n, m)
 
@@ -145,8 +145,8 @@ open_lots-requires-clause-pieces g c = λ ws raw.
     subst (λ (b : Basis). ArePieces b c.args.given.level Step xs ws) c.phase_of.ensures.basis (subst (λ n. ArePieces c.phase_of.result.basis.now n Step xs ws) c.phase_of.ensures.level (subst (λ (d : Duty). ArePieces c.phase_of.result.basis.now c.phase_of.result.level d xs ws) c.phase_of.ensures.duty raw)) in
     subst (λ (p : Problem). MayBeRun p c.pack_lots.new.lots.shape ws) (sym c.phase_of.ensures.problem)
     (subst (λ (h : Shape). MayBeRun c.args.given.problem.now h ws) (λ i. (sym c.pack_lots.ensures.rest i).shape)
-    (may_run (in_its_step g at.After-exchange_runs) c.requires.several c.requires.lots.values (handed_over g at.After-exchange_messages) c.requires.edges c.requires.lots.current
-    c.args.given.basis.now (option_copied c.args.given.old) c.requires.basis refl ws of))
+    (may_run (in_its_step g at.After-exchange_runs) c.requires.several c.requires.lots.values (handed_over g at.After-exchange_messages) c.requires.edges c.requires.lots.packed
+    c.args.given.basis.now (option_copied c.args.given.old) c.requires.step.basis refl ws of))
 
 pub returns-clause-opened : goal.returns-clause-opened
 returns-clause-opened g c =
@@ -167,7 +167,7 @@ returns-clause-opened g c =
 pub returns-clause-room : goal.returns-clause-room
 returns-clause-room g c =
     let at = goal.at.returns-clause-room g c in
-    let n = xs_count (in_its_step g at.After-exchange_runs) c.requires.several c.requires.lots.values (handed_over g at.After-exchange_messages) c.requires.edges c.requires.lots.current in
+    let n = xs_count (in_its_step g at.After-exchange_runs) c.requires.several c.requires.lots.values (handed_over g at.After-exchange_messages) c.requires.edges c.requires.lots.packed in
     on_ok_weaker c.open_lots.result (λ room. omega (arith, n, room)) c.open_lots.ensures.room
 
 pub returns-clause-back : goal.returns-clause-back

@@ -1,5 +1,5 @@
 use Rattle.std.proofs.Common.{sym, subst}
-use Rattle.std.specs.Global.{Box, Vec}
+use Rattle.std.specs.Global.{Box}
 use Rattle.std.specs.List.{All, AllZip}
 use Rattle.std.specs.Option.{option_copied}
 use Rattle.std.specs.Vec.{with_items}
@@ -17,25 +17,23 @@ use Rattle.amr_advance.proofs.level.ready_lots.Goals as goal
 
 pub returns-then-lots : goal.returns-then-lots
 returns-then-lots c = record {
-  ready = record {
-    lots = c.requires.lots;
-    current = c.requires.current;
-    values = values_or c.args.given.problem.now c.args.given.level (old_masses (option_copied c.args.given.old)) c.args.lots.now.lots.items (c.requires.valued c.if-lots.true);
-  };
+  lots = c.requires.lots;
+  packed = c.requires.masses.packed;
+  values = values_or c.args.given.problem.now c.args.given.level (old_masses (option_copied c.args.given.old)) c.args.lots.now.lots.items (c.requires.masses.valued c.if-lots.true);
 }
 
 pub ready_outer-requires-clause-level : goal.ready_outer-requires-clause-level
-ready_outer-requires-clause-level c = c.requires.level.level
+ready_outer-requires-clause-level c = c.requires.step.level.level
 
 pub ready_outer-requires-clause-spans : goal.ready_outer-requires-clause-spans
 ready_outer-requires-clause-spans c =
     subst (All (λ (x : Box Lot). All (IsOuterSpan (domain c.args.given.problem.now c.args.given.level)) x.value.workspace.outer.spans.items)) (sym c.deref_mut.ensures.value)
-    (all_spans c.args.given.problem.now c.args.given.level (old_masses (option_copied c.args.given.old)) c.args.patches.now c.args.given.cells.now (option_copied c.args.given.finer) c.args.lots.now c.requires.level c.requires.lots)
+    (all_spans c.args.given.problem.now c.args.given.level (old_masses (option_copied c.args.given.old)) c.args.patches.now c.args.given.cells.now (option_copied c.args.given.finer) c.args.lots.now c.requires.step.level c.requires.lots)
 
 pub ready_outer-requires-clause-places : goal.ready_outer-requires-clause-places
 ready_outer-requires-clause-places c =
     subst (All (λ (x : Box Lot). HasOuterPlaces x.value.workspace.outer)) (sym c.deref_mut.ensures.value)
-    (all_places c.args.given.problem.now c.args.given.level (old_masses (option_copied c.args.given.old)) c.args.patches.now c.args.given.cells.now (option_copied c.args.given.finer) c.args.lots.now c.requires.level c.requires.lots)
+    (all_places c.args.given.problem.now c.args.given.level (old_masses (option_copied c.args.given.old)) c.args.patches.now c.args.given.cells.now (option_copied c.args.given.finer) c.args.lots.now c.requires.step.level c.requires.lots)
 
 pub returns : goal.returns
 returns c =
@@ -49,9 +47,7 @@ returns c =
     let readied : AllZip (IsReadied p l m) v.items w.items = when_lent (AllZip (IsReadied p l m)) v c.deref_mut.result.now c.ready_outer.new.lots c.deref_mut.ensures.value (length_all_zip (IsReadied p l m) c.deref_mut.result.now c.ready_outer.new.lots c.ready_outer.ensures) c.ready_outer.ensures in
     let kept = all_readied p l m v.items w.items readied in
     record {
-      ready = record {
-        lots = lots_kept s t w t.packed t.valued kept c.requires.lots;
-        current = λ packed. carry_kept s t w t.packed t.valued kept (masses_in c.args.patches.now) (c.requires.current packed);
-        values = readied_values p l m v.items w.items readied;
-      };
+      lots = lots_kept s t w t.packed t.valued kept c.requires.lots;
+      packed = λ packed. carry_kept s t w t.packed t.valued kept (masses_in c.args.patches.now) (c.requires.masses.packed packed);
+      values = readied_values p l m v.items w.items readied;
     }

@@ -1,7 +1,6 @@
 use Rattle.std.proofs.Common.{refl}
 use Rattle.std.specs.declared.option.Option.TheVariants.{None}
 use Rattle.std.specs.List.{AllZip}
-use Rattle.std.specs.Vec.{with_items}
 use Rattle.std.proofs.lemmas.List.Elements.{length_all_zip}
 use Rattle.amr_advance.specs.Outer.{IsLent}
 use Rattle.amr_advance.proofs.LotsHanded.{when_lent}

@@ -1,4 +1,4 @@
-use Rattle.std.proofs.Common.{◌≡◌, ◌∙◌, ℕ, ◌<◌, List, length, get_or, refl, sym, ap, subst, arith}
+use Rattle.std.proofs.Common.{◌≡◌, ℕ, ◌<◌, List, length, get_or, refl, sym, subst}
 use Rattle.std.specs.Global.{Box}
 use Rattle.std.specs.Option.{option_copied}
 use Rattle.std.specs.Vec.{with_items}
@@ -9,7 +9,7 @@ use Rattle.amr_lots.specs.Runs.{run}
 use Rattle.amr_advance.specs.Handing.{AreHanded, AreLent}
 use Rattle.amr_advance.proofs.InLots.{IsInStep, in_step}
 use Rattle.amr_advance.proofs.LotsHanded.{all_handed, all_lent}
-use Rattle.amr_advance.proofs.SteppedLots.{AreInPlaceOf, edges_same, lists_back, now_found, now_lots, now_stepped, patches_back, patches_same}
+use Rattle.amr_advance.proofs.SteppedLots.{edges_same, lists_back, now_made, patches_back, patches_same}
 use Rattle.amr_advance.proofs.level.step_in_lots.Given as given
 use Rattle.amr_advance.proofs.level.step_in_lots.Goals.{After-exchange_lists, After-exchange_runs, After-run_in_lots-run}
 use Rattle.amr_advance.proofs.level.step_in_lots.Goals as goal
@@ -17,7 +17,7 @@ use Rattle.amr_advance.proofs.level.step_in_lots.Goals as goal
 -- ---- the stages of the step
 
 in_its_step : (g : given.Over) (c : After-run_in_lots-run g) → IsInStep c.args.given.problem.now c.args.given.level (old_masses (option_copied c.args.given.old)) c.args.patches.now c.args.given.cells.now (option_copied c.args.given.finer) c.args.lots.now
-in_its_step g c = in_step c.args.given.problem.now c.args.given.level (old_masses (option_copied c.args.given.old)) c.args.patches.now c.args.given.cells.now (option_copied c.args.given.finer) c.args.lots.now c.requires.level c.requires.lots.lots
+in_its_step g c = in_step c.args.given.problem.now c.args.given.level (old_masses (option_copied c.args.given.old)) c.args.patches.now c.args.given.cells.now (option_copied c.args.given.finer) c.args.lots.now c.requires.step.level c.requires.lots.lots
 
 each_is : (g : given.Over) (c : After-run_in_lots-run g) → c.run_in_lots-run.new.lots.each ≡ c.args.lots.now.each
 each_is g c = λ i. (c.run_in_lots-run.ensures.rest i).each
@@ -59,7 +59,7 @@ exchange_lists-requires g c =
       counts = λ some.
           subst (λ (n : ℕ). (k : ℕ) (x : Box Lot) → k < length c.deref_mut.result.now → length (get_or c.deref_mut.result.now k x).value.edges.items ≡ length (run n k ds)) (sym (each_is g at.After-run_in_lots-run))
           (subst (λ (ys : List (Box Lot)). (k : ℕ) (x : Box Lot) → k < length ys → length (get_or ys k x).value.edges.items ≡ length (run c.args.lots.now.each k ds)) (sym c.deref_mut.ensures.value)
-          (lists_back (in_its_step g at.After-run_in_lots-run) c.requires.several c.requires.lots.values went.1 c.requires.edges c.requires.lots.current c.run_in_lots-run.new.lots.lots.items went.2 some));
+          (lists_back (in_its_step g at.After-run_in_lots-run) c.requires.several c.requires.lots.values went.1 c.requires.edges c.requires.lots.packed c.run_in_lots-run.new.lots.lots.items went.2 some));
     }
 
 pub exchange_runs-requires : goal.exchange_runs-requires
@@ -70,7 +70,7 @@ exchange_runs-requires g c =
     record {
       counts = subst (λ (n : ℕ). (k : ℕ) (x : Box Lot) → k < length c.deref_mut-2.result.now → length (get_or c.deref_mut-2.result.now k x).value.patches.items ≡ length (run n k qs)) (sym (each_is g at.After-run_in_lots-run))
           (subst (λ (ys : List (Box Lot)). (k : ℕ) (x : Box Lot) → k < length ys → length (get_or ys k x).value.patches.items ≡ length (run c.args.lots.now.each k qs)) (sym c.deref_mut-2.ensures.value)
-          (patches_back (in_its_step g at.After-run_in_lots-run) c.requires.several c.requires.lots.values went.1 c.requires.edges c.requires.lots.current c.run_in_lots-run.new.lots.lots.items went.2 (lists g at.After-exchange_lists)));
+          (patches_back (in_its_step g at.After-run_in_lots-run) c.requires.several c.requires.lots.values went.1 c.requires.edges c.requires.lots.packed c.run_in_lots-run.new.lots.lots.items went.2 (lists g at.After-exchange_lists)));
     }
 
 -- refused
@@ -80,7 +80,7 @@ returns-clause-same g c =
     let at = goal.at.returns-clause-same g c in
     let went = c.run_in_lots-run.ensures.run in
     on_err_weaker c.run_in_lots-run.result (λ same.
-    patches_same (in_its_step g at.After-run_in_lots-run) c.requires.several c.requires.lots.values went.1 c.requires.edges c.requires.lots.current c.run_in_lots-run.new.lots.lots.items went.2 (lists g at.After-exchange_lists)
+    patches_same (in_its_step g at.After-run_in_lots-run) c.requires.several c.requires.lots.values went.1 c.requires.edges c.requires.lots.packed c.run_in_lots-run.new.lots.lots.items went.2 (lists g at.After-exchange_lists)
     c.exchange_runs.new.patches (last g at.After-exchange_runs) (back g at.After-exchange_runs) c.exchange_runs.ensures.count same) went.4
 
 pub returns-clause-same_edges : goal.returns-clause-same_edges
@@ -88,35 +88,19 @@ returns-clause-same_edges g c =
     let at = goal.at.returns-clause-same_edges g c in
     let went = c.run_in_lots-run.ensures.run in
     on_err_weaker c.run_in_lots-run.result (λ same.
-    edges_same (in_its_step g at.After-run_in_lots-run) c.requires.several c.requires.lots.values went.1 c.requires.edges c.requires.lots.current c.run_in_lots-run.new.lots.lots.items went.2 (lists g at.After-exchange_lists)
+    edges_same (in_its_step g at.After-run_in_lots-run) c.requires.several c.requires.lots.values went.1 c.requires.edges c.requires.lots.packed c.run_in_lots-run.new.lots.lots.items went.2 (lists g at.After-exchange_lists)
     c.exchange_runs.new.patches (last g at.After-exchange_runs) (back g at.After-exchange_runs) c.exchange_runs.ensures.count same) went.4
 
 -- done
 
-pub returns-clause-stepped : goal.returns-clause-stepped
-returns-clause-stepped g c =
-    let at = goal.at.returns-clause-stepped g c in
-    let went = c.run_in_lots-run.ensures.run in
-    on_ok_weaker c.run_in_lots-run.result (λ done.
-    now_stepped (in_its_step g at.After-run_in_lots-run) c.requires.several c.requires.lots.values went.1 c.requires.edges c.requires.lots.current c.run_in_lots-run.new.lots.lots.items went.2 (lists g at.After-exchange_lists)
-    c.exchange_runs.new.patches (last g at.After-exchange_runs) (back g at.After-exchange_runs) c.exchange_runs.ensures.count c.args.given.basis.now (option_copied c.args.given.old) c.requires.basis refl c.run_in_lots-run.new.lots refl done) went.3
-
-pub returns-clause-edges : goal.returns-clause-edges
-returns-clause-edges g c =
-    let at = goal.at.returns-clause-edges g c in
-    let went = c.run_in_lots-run.ensures.run in
-    on_ok_weaker c.run_in_lots-run.result (λ done.
-    now_found (in_its_step g at.After-run_in_lots-run) c.requires.several c.requires.lots.values went.1 c.requires.edges c.requires.lots.current c.run_in_lots-run.new.lots.lots.items went.2 (lists g at.After-exchange_lists)
-    c.exchange_runs.new.patches (last g at.After-exchange_runs) (back g at.After-exchange_runs) c.exchange_runs.ensures.count c.args.given.basis.now (option_copied c.args.given.old) c.requires.basis refl c.run_in_lots-run.new.lots refl done) went.3
-
-pub returns-clause-lots : goal.returns-clause-lots
-returns-clause-lots g c =
-    let at = goal.at.returns-clause-lots g c in
+pub returns-clause-made : goal.returns-clause-made
+returns-clause-made g c =
+    let at = goal.at.returns-clause-made g c in
     let went = c.run_in_lots-run.ensures.run in
     let rest = c.run_in_lots-run.ensures.rest in
     let u' = c.run_in_lots-run.new.lots in
     let u = record u' { lots = with_items (with_items u'.lots c.exchange_lists.new.lots) c.exchange_runs.new.lots } in
     on_ok_weaker c.run_in_lots-run.result (λ done.
-    now_lots (in_its_step g at.After-run_in_lots-run) c.requires.several c.requires.lots.values went.1 c.requires.edges c.requires.lots.current u'.lots.items went.2 (lists g at.After-exchange_lists)
-    c.exchange_runs.new.patches (last g at.After-exchange_runs) (back g at.After-exchange_runs) c.exchange_runs.ensures.count c.args.given.basis.now (option_copied c.args.given.old) c.requires.basis refl u' refl done
+    now_made (in_its_step g at.After-run_in_lots-run) c.requires.several c.requires.lots.values went.1 c.requires.edges c.requires.lots.packed u'.lots.items went.2 (lists g at.After-exchange_lists)
+    c.exchange_runs.new.patches (last g at.After-exchange_runs) (back g at.After-exchange_runs) c.exchange_runs.ensures.count c.args.given.basis.now (option_copied c.args.given.old) c.requires.step.basis refl u' refl done
     u (record { level = (λ i. (rest i).level); wanted = (λ i. (rest i).wanted); each = each_is g at.After-run_in_lots-run; shape = (λ i. (rest i).shape); totals = done.words; lots = refl }) refl) went.3

@@ -4,7 +4,7 @@ use Rattle.std.specs.Option.{option_copied}
 use Rattle.amr_ghost.specs.Frames.{old_masses}
 use Rattle.amr_lots.specs.declared.lot.Lot.{Lot}
 use Rattle.amr_advance.proofs.InLots.{IsInStep, in_step}
-use Rattle.amr_advance.proofs.WholeStep.{all_found, all_stepped, have_stepped, may_step, some}
+use Rattle.amr_advance.proofs.WholeStep.{have_made, may_step, some}
 use Rattle.amr_advance.proofs.level.step_whole.Given as given
 use Rattle.amr_advance.proofs.level.step_whole.Goals.{After-deref_mut, Start}
 use Rattle.amr_advance.proofs.level.step_whole.Goals as goal
@@ -24,17 +24,7 @@ step_by_one-requires-clause-step g c =
     let at = goal.at.step_by_one-requires-clause-step g c in
     may_step (its_step g at.Start) c.requires.one c.index_mut.result.now c.requires.lots.values c.deref_mut.result.now (same_lot g at.After-deref_mut) c.requires.edges
 
-pub returns-clause-stepped : goal.returns-clause-stepped
-returns-clause-stepped g c =
-    let at = goal.at.returns-clause-stepped g c in
-    all_stepped (its_step g at.Start) c.requires.one c.index_mut.result.now c.requires.lots.values c.deref_mut.result.now (same_lot g at.After-deref_mut) c.step_by_one.ensures
-
-pub returns-clause-lots : goal.returns-clause-lots
-returns-clause-lots g c =
-    let at = goal.at.returns-clause-lots g c in
-    have_stepped (its_step g at.Start) c.requires.one c.index_mut.result.now c.requires.lots.values c.deref_mut.result.now (same_lot g at.After-deref_mut) c.step_by_one.ensures
-
-pub returns-clause-edges : goal.returns-clause-edges
-returns-clause-edges g c =
-    let at = goal.at.returns-clause-edges g c in
-    all_found (its_step g at.Start) c.requires.one c.index_mut.result.now c.requires.lots.values c.deref_mut.result.now (same_lot g at.After-deref_mut) c.step_by_one.ensures c.requires.edges
+pub returns : goal.returns
+returns g c =
+    let at = goal.at.returns g c in
+    have_made (its_step g at.Start) c.requires.one c.index_mut.result.now c.requires.lots.values c.deref_mut.result.now (same_lot g at.After-deref_mut) c.step_by_one.ensures c.requires.edges

@@ -1,6 +1,7 @@
 use Rattle.std.proofs.Common.{◌≡◌, ◌∙◌, ◌+◌, ◌*◌, ◌≤◌, List, [], ◌∷◌, ◌++◌, length, get_or, refl, sym, ap, subst, arith}
 use Rattle.std.specs.Global.{Box}
 use Rattle.std.specs.List.{All}
+use Rattle.std.proofs.lemmas.Bool.{false≢true}
 use Rattle.amr_def.specs.Domain.{domain}
 use Rattle.amr_ghost.specs.Messages.{CarriesMasses}
 use Rattle.amr_ghost.specs.Parts.{IsParted}
@@ -8,6 +9,7 @@ use Rattle.amr_ghost.proofs.PartLaws.{plan_small}
 use Rattle.amr_layout.specs.Arounds.{around_of}
 use Rattle.amr_lots.specs.declared.lot.Lot.{Lot}
 use Rattle.amr_advance.specs.Lots.{CarryMasses, IsWholeLot}
+use Rattle.amr_advance.proofs.MadeLots.{one_wanted}
 use Rattle.amr_advance.proofs.WholeRun.{alone_carries, one_carries}
 use Rattle.amr_advance.proofs.lots.one_lot.Goals as goal
 
@@ -24,12 +26,15 @@ pub whole_lot-requires-clause-outer : goal.whole_lot-requires-clause-outer
 whole_lot-requires-clause-outer c = c.in_ok-parts.ensures.outer_count
 
 -- the one lot has a message to itself alone
-pub returns-clause-current : goal.returns-clause-current
-returns-clause-current c = λ M packed.
+pub returns-clause-masses : goal.returns-clause-masses
+returns-clause-masses c = λ p l own old.
     let b : Box Lot = c.in_ok-lot.lot in
     let items : c.push_reserved.new.self.items ≡ b ∷ [] = c.push_reserved.ensures.items ∙ ap (λ (ys : List (Box Lot)). ys ++ b ∷ []) c.in_ok-lots.ensures.items in
     let made = c.in_ok-whole_lot.ensures c.max-each.result (omega (arith, c.max-each.ensures)) in
-    subst (CarryMasses M) (sym items) (one_carries M b (subst (λ (x : Lot). All (CarriesMasses M) x.workspace.outbox.items) (sym c.in_ok-lot.ensures.ok) (alone_carries made.serves.outbox M)))
+    record {
+      packed = λ _. subst (CarryMasses own) (sym items) (one_carries own b (subst (λ (x : Lot). All (CarriesMasses own) x.workspace.outbox.items) (sym c.in_ok-lot.ensures.ok) (alone_carries made.serves.outbox own)));
+      valued = λ is. absurd (false≢true is);
+    }
 
 pub returns-clause-lots : goal.returns-clause-lots
 returns-clause-lots c =
@@ -46,6 +51,7 @@ returns-clause-lots c =
       of_level = refl;
       some = omega (arith, c.max-each.ensures);
       enough = subst (λ n. length c.args.s.patches.now ≤ n * each) (sym count) (omega (arith, le));
+      count = λ some. count ∙ sym (one_wanted 1 (length c.args.s.patches.now) (omega arith) some);
       small = c.requires.small;
       many = omega (arith, count);
       edges = c.requires.edges;
@@ -55,3 +61,6 @@ returns-clause-lots c =
       parted = subst (λ n. IsParted c.args.frames.now each n parts) (sym count) c.in_ok-parts.ensures;
       made = record { one = count; lot = λ x. subst (λ (ys : List (Box Lot)). IsWholeLot s each parts (get_or ys 0 x).value) (sym items) whole };
     }
+
+pub returns-clause-one : goal.returns-clause-one
+returns-clause-one c = ap length (c.push_reserved.ensures.items ∙ ap (λ (ys : List (Box Lot)). ys ++ c.in_ok-lot.lot ∷ []) c.in_ok-lots.ensures.items)

@@ -1,7 +1,6 @@
 use Rattle.std.proofs.Common.{◌∙◌, ap, sym, subst}
 use Rattle.std.specs.List.{All}
 use Rattle.amr_def.specs.Domain.{domain}
-use Rattle.amr_ghost.specs.declared.outer.OuterGhosts.{OuterGhosts}
 use Rattle.amr_ghost.specs.Outer.{HasOuterPlaces, IsOuterSpan}
 use Rattle.amr_lots.specs.declared.lot.Lot.{Lot}
 use Rattle.amr_advance.specs.Outer.{lot_with_outer}

@@ -1,12 +1,10 @@
-use Rattle.std.proofs.Common.{ℕ, get_or, subst, arith}
+use Rattle.std.proofs.Common.{get_or, subst, arith}
 use Rattle.std.specs.declared.option.Option.TheVariants.{Some}
 use Rattle.std.specs.Arc.{arc_value}
-use Rattle.std.specs.Global.{Box}
 use Rattle.amr_patch.specs.declared.levels.Level.{Level}
-use Rattle.amr_lots.specs.declared.lot.Lot.{Lot}
 use Rattle.amr_lots.proofs.InPlaces.{all_changed, none_changed, one_more_changed}
 use Rattle.amr_advance.specs.Outer.{IsLent}
-use Rattle.amr_advance.proofs.LentLevels.{all_kept, some_kept}
+use Rattle.amr_advance.proofs.LentLevels.{some_kept}
 use Rattle.amr_advance.proofs.outer.lend.Goals as goal
 
 pub loop-k-init : goal.loop-k-init

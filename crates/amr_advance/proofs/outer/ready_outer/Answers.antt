@@ -1,4 +1,3 @@
-use Rattle.std.proofs.Common.{◌≡◌, sym, ap, subst}
 use Rattle.std.specs.Global.{Box, Vec}
 use Rattle.std.specs.List.{All}
 use Rattle.std.specs.Option.{option_copied}

@@ -1,4 +1,4 @@
-use Rattle.std.proofs.Common.{◌≡◌, ◌+◌, None, length, get_or, sym, ap, subst, ◌∙◌, arith}
+use Rattle.std.proofs.Common.{◌≡◌, ◌+◌, None, length, sym, ap, subst, ◌∙◌, arith}
 use Rattle.std.specs.Global.{Box}
 use Rattle.std.proofs.lemmas.List.{length_push}
 use lib.ListN.{get_elem?}
@@ -7,7 +7,8 @@ use Rattle.amr_lots.specs.declared.lot.Lot.{Lot}
 use Rattle.amr_lots.specs.declared.lot.Work.{Work}
 use Rattle.amr_lots.specs.Ready.{MayComplete}
 use Rattle.amr_advance.specs.Phases.{IsCollected, IsPieceOf}
-use Rattle.amr_advance.proofs.Pieces.{one_more, one_piece, other_piece, still_complete}
+use Rattle.amr_advance.proofs.MadeMessages.{one_more}
+use Rattle.amr_advance.proofs.Pieces.{one_piece, other_piece, still_complete}
 use Rattle.amr_advance.proofs.phases.collect.Goals as goal
 
 pub hand-work-requires : goal.hand-work-requires
@@ -27,11 +28,11 @@ loop-task-preserved c =
       registers = ap (λ (o : EndedOf Work). o.registers) gone ∙ inv.registers;
       words = ap (λ (o : EndedOf Work). o.words) gone ∙ inv.words;
       rest = λ t from. ap (λ (o : EndedOf Work). get_elem? o.pieces t) gone ∙ other_piece c.loop-task.ended.pieces at t None (omega (arith, from)) ∙ inv.rest t (omega (arith, from));
-      done = λ t w x lt given. subst (λ ys. IsCollected w (get_or ys t x)) (sym c.push_reserved.ensures.items)
-          (one_more (λ j (y : Box Lot). (v : Work) → IsPieceOf c.args.ended.now j v → IsCollected v y) xs c.lot_of.result at inv.count (λ j d below v is. inv.done j v d below is)
+      done = λ t w x lt given.
+          one_more (λ j (y : Box Lot). (v : Work) → IsPieceOf c.args.ended.now j v → IsCollected v y) xs c.push_reserved.new.self.items c.lot_of.result at inv.count c.push_reserved.ensures.items (λ j d below v is. inv.done j v d below is)
           (λ v is. subst (λ u. IsCollected u c.lot_of.result) (one_piece c.args.ended.now at c.hand-work.result v handed is)
           (record { piece = c.complete.new.work; finished = c.complete.ensures.finished; stands = c.complete.ensures.stands; lot = c.lot_of.ensures }))
-          t x (omega (arith, lt)) w given);
+          t x (omega (arith, lt)) w given;
       count = ap length c.push_reserved.ensures.items ∙ length_push xs c.lot_of.result ∙ ap (λ n. n + 1) inv.count;
       room = c.push_reserved.ensures.capacity ∙ inv.room;
     }

@@ -18,7 +18,7 @@ returns-in_err-layout-clause-same_register g c = on_err c.from_residual.result (
 pub run_level-run-requires-clause-edges : goal.run_level-run-requires-clause-edges
 run_level-run-requires-clause-edges g c κs within =
     let lists : lists_of c.deref_mut.result.now ≡ edges_of c.args.register.now = ap lists_of c.deref_mut.ensures.value ∙ c.take_edges-edges.ensures.lists in
-    subst (λ (xs : List (List EdgeCell)). AreEdgesFor (map box c.args.patches.now) xs) (sym lists) (edges_for (map box c.args.patches.now) c.args.register.now c.requires.edges)
+    subst (λ (xs : List (List EdgeCell)). AreEdgesFor (map box c.args.patches.now) xs) (sym lists) (edges_for (map box c.args.patches.now) c.args.register.now c.requires.may.edges)
 
 pub returns-in_err-run-clause-same_register : goal.returns-in_err-run-clause-same_register
 returns-in_err-run-clause-same_register g c =
@@ -28,7 +28,7 @@ returns-in_err-run-clause-same_register g c =
 
 pub take_nets-requires : goal.take_nets-requires
 take_nets-requires g c =
-    may_take c.args.given.problem.now c.args.given.level (masses_in c.args.patches.now) (lists_of c.run_level-run.new.edges) (option_copied c.args.given.finer) c.args.register.now c.put_edges.new.register c.requires.register
+    may_take c.args.given.problem.now c.args.given.level (masses_in c.args.patches.now) (lists_of c.run_level-run.new.edges) (option_copied c.args.given.finer) c.args.register.now c.put_edges.new.register c.requires.may.register
     (came_back c.args.register.now c.take_edges-edges.new.register c.put_edges.new.register c.take_edges-edges.result c.deref_mut.result.now c.run_level-run.new.edges c.take_edges-edges.ensures.lists c.deref_mut.ensures.value c.deref_mut.ensures.len c.take_edges-edges.ensures.rest c.in_ok-run.ensures.made.edges.same c.put_edges.ensures)
     c.in_ok-run.ensures.made.edges.small
 
@@ -36,7 +36,7 @@ pub returns-clause-boxes : goal.returns-clause-boxes
 returns-clause-boxes g c = stepped_boxes _ _ c.run_level-run.new.patches c.in_ok-run.ensures.made.stepped
 
 pub returns-clause-apart : goal.returns-clause-apart
-returns-clause-apart g c = stepped_apart _ _ c.run_level-run.new.patches c.in_ok-run.ensures.made.stepped c.requires.level.apart
+returns-clause-apart g c = stepped_apart _ _ c.run_level-run.new.patches c.in_ok-run.ensures.made.stepped c.requires.may.step.level.apart
 
 -- what the step leaves
 pub returns-clause-stepped : goal.returns-clause-stepped
@@ -48,18 +48,26 @@ returns-clause-stepped g c =
     let s = around p l c.args.patches.now c.args.given.cells.now (option_copied c.args.given.finer) in
     let h = c.in_ok-run.ensures.made in
     let k = c.run_level-run.new.layout in
-    let count = kept_count s k h.layout in
+    let count = kept_count s k h.layout.laid_out in
     let ys = lists_of c.run_level-run.new.edges in
     let lists : lists_of c.deref_mut.result.now ≡ edges_of c.args.register.now = ap lists_of c.deref_mut.ensures.value ∙ c.take_edges-edges.ensures.lists in
     let nets : AreNetsOf p l m old (edges_of c.args.register.now) ys = subst (λ (xs : List (List EdgeCell)). AreNetsOf p l m old xs ys) lists h.edges.nets in
     record {
       masses = stepped_masses _ _ c.run_level-run.new.patches h.stepped;
       count = count;
-      few = omega (arith, h.layout.few, count);
+      few = omega (arith, h.layout.laid_out.few, count);
       small = h.totals.small;
-      totals = totals_of p l m old c.args.patches.now c.args.given.cells.now (option_copied c.args.given.finer) (totals_kept k) c.requires.level.inside c.requires.level.apart refl h.totals.are;
-      there = first_there s k h.layout;
-      register = nets_taken p l m ys old (option_copied c.args.given.finer) c.args.register.now c.put_edges.new.register c.take_nets.new.register c.requires.register
+      totals = totals_of p l m old c.args.patches.now c.args.given.cells.now (option_copied c.args.given.finer) (totals_kept k) c.requires.may.step.level.inside c.requires.may.step.level.apart refl h.totals.are;
+      there = first_there s k h.layout.laid_out;
+      register = nets_taken p l m ys old (option_copied c.args.given.finer) c.args.register.now c.put_edges.new.register c.take_nets.new.register c.requires.may.register
           (came_back c.args.register.now c.take_edges-edges.new.register c.put_edges.new.register c.take_edges-edges.result c.deref_mut.result.now c.run_level-run.new.edges c.take_edges-edges.ensures.lists c.deref_mut.ensures.value c.deref_mut.ensures.len c.take_edges-edges.ensures.rest h.edges.same c.put_edges.ensures)
           nets c.take_nets.ensures;
+    }
+
+pub returns-clause-kept : goal.returns-clause-kept
+returns-clause-kept g c =
+    let h = c.in_ok-run.ensures.made.layout in
+    record {
+      layout = record { made_for = around c.args.given.problem.now c.args.given.level c.args.patches.now c.args.given.cells.now (option_copied c.args.given.finer); of_problem = refl; laid_out = h.laid_out };
+      masses = h.masses;
     }

@@ -1,11 +1,8 @@
 use Rattle.std.proofs.Common.{◌++◌, List, ℕ, ◌∙◌, arith}
-use Rattle.std.specs.List.{flat_map}
 use Rattle.std.proofs.lemmas.Int.{ints}
-use Rattle.amr_box.specs.Cells.{cells_of}
-use Rattle.amr_def.specs.State.{mass_of}
 use Rattle.amr_patch.specs.Levels.{level_of}
-use Rattle.amr_payload.specs.Payload.{box_bytes, corner_bytes, number_bytes}
-use Rattle.amr_codec.specs.MassWidths.{width_of}
+use Rattle.amr_payload.specs.Payload.{box_bytes, corner_bytes, masses_bytes}
+use Rattle.amr_codec.specs.Forms.{form_of}
 use Rattle.amr_codec.proofs.Appending.{put_twice}
 use Rattle.amr_patch.proofs.Corners.{corners}
 use Rattle.amr_codec.proofs.levels.put_box.Goals as goal
@@ -30,16 +27,16 @@ put_corners-requires-clause-north c =
     let k = corners c.args.p.now c.args.l c.args.b.now c.requires.fine c.lo.ensures.proper c.requires.inside in
     omega (arith, ints, k.north, c.hi.ensures.y)
 
-pub put_rows-requires-clause-near : goal.put_rows-requires-clause-near
-put_rows-requires-clause-near c = (corners c.args.p.now c.args.l c.args.b.now c.requires.fine c.lo.ensures.proper c.requires.inside).near
+pub put_masses_of-requires-clause-near : goal.put_masses_of-requires-clause-near
+put_masses_of-requires-clause-near c = (corners c.args.p.now c.args.l c.args.b.now c.requires.fine c.lo.ensures.proper c.requires.inside).near
 
 pub returns : goal.returns
 unfolding box_bytes
 returns c =
     let b = c.args.b.now in
     let m = (level_of c.args.level.now).masses in
-    let rest : List ℕ = flat_map (λ d. number_bytes (width_of c.args.width) (mass_of m d)) (cells_of b) in
+    let rest : List ℕ = masses_bytes (form_of c.args.form.now) m b in
     let out = c.args.out.now.items in
-    put_twice out c.put_corners.new.out.items c.put_rows.new.out.items (corner_bytes b.lo ++ corner_bytes b.hi) rest
+    put_twice out c.put_corners.new.out.items c.put_masses_of.new.out.items (corner_bytes b.lo ++ corner_bytes b.hi) rest
     (c.in_ok-put_corners.ensures ∙ (λ i. out ++ (corner_bytes (c.lo.ensures.value i) ++ corner_bytes (c.hi.ensures.value i))))
-    c.in_ok-put_rows.ensures
+    c.in_ok-put_masses_of.ensures

@@ -5,7 +5,7 @@ use Rattle.amr_box.specs.Cells.{Extent, holds}
 use Rattle.amr_def.specs.Domain.{domain, in_domain}
 use Rattle.amr_patch.specs.Levels.{level_of}
 use Rattle.amr_payload.specs.Payload.{box_bytes}
-use Rattle.amr_codec.specs.MassWidths.{width_of}
+use Rattle.amr_codec.specs.Forms.{form_of}
 use Rattle.amr_patch.specs.BoxRows.{HasCellsOf}
 use Rattle.amr_codec.proofs.Appending.{entries_all, entry_more}
 use Rattle.amr_patch.proofs.BoxEntries.{box_cells, box_inside, no_box}
@@ -31,7 +31,7 @@ put_box-requires-clause-cells c =
 pub loop-b-preserved : goal.loop-b-preserved
 loop-b-preserved c =
     let k = level_of c.args.level.now in
-    let f : Extent → List ℕ = box_bytes (width_of c.args.width) k.masses in
+    let f : Extent → List ℕ = box_bytes (form_of c.args.form.now) k.masses in
     let l = c.loop-b in
     let i = l.b-index in
     let inside : i < length k.boxes = subst (λ (bs : List Extent). i < length bs) c.boxes-b-items.ensures c.loop-b-test.true in
@@ -43,4 +43,4 @@ returns c =
     let k = level_of c.args.level.now in
     let l = c.loop-b in
     let all : length k.boxes ≤ l.b-index = omega (arith, l.auto.b-index-end, c.loop-b-test.false, ap length c.boxes-b-items.ensures) in
-    l.invariant ∙ entries_all (box_bytes (width_of c.args.width) k.masses) c.args.out.now.items k.boxes l.b-index all
+    l.invariant ∙ entries_all (box_bytes (form_of c.args.form.now) k.masses) c.args.out.now.items k.boxes l.b-index all

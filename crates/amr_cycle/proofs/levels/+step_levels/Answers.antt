@@ -1,13 +1,11 @@
-use Rattle.std.proofs.Common.{◌≡◌, ℕ, List, ◌∷◌, map, sym, ap, subst, ◌∙◌, arith}
+use Rattle.std.proofs.Common.{◌≡◌, ◌+◌, ℕ, List, ◌∷◌, map, sym, ap, subst, ◌∙◌, arith}
 use Rattle.std.specs.Prelude.{IfSome}
 use Rattle.std.specs.declared.option.Option.{Option}
 use Rattle.std.specs.declared.option.Option.TheVariants.{Some}
 use Rattle.std.specs.Arc.{arc_value}
 use Rattle.std.specs.Option.{option_copied}
 use Rattle.amr_box.specs.Cells.{Extent}
-use Rattle.amr_def.specs.declared.problem.Problem.{Problem}
 use Rattle.amr_laws.specs.Sides.{inflow_beside, outflow_beside}
-use Rattle.amr_patch.specs.declared.levels.Level.{Level as Held}
 use Rattle.amr_patch.specs.Levels.{level_of, patches_of}
 use Rattle.amr_patch.specs.Patches.{box}
 use Rattle.amr_ghost.specs.Frames.{old_masses}
@@ -18,10 +16,11 @@ use Rattle.amr_register.specs.Registers.{HasEdgesOf}
 use Rattle.amr_transfer.specs.Sums.{summed}
 use Rattle.amr_cycle.specs.Cycles.{entries_of}
 use Rattle.amr_cycle.specs.declared.kept.KeptBelow.{KeptBelow}
-use Rattle.amr_cycle.specs.declared.kept.KeptLevel.{KeptLevel}
-use Rattle.amr_cycle.specs.Kept.{AreCurrent, AreKept}
+use Rattle.amr_advance.proofs.KeptLaws.{kept_layout}
+use Rattle.amr_cycle.specs.Kept.{AreKept}
 use Rattle.std.proofs.lemmas.Result.{on_ok_weaker}
-use Rattle.amr_cycle.proofs.KeptLaws.{all_below_after, current_all, current_first, current_rest, kept_all, kept_first, kept_rest, valued_first}
+use Rattle.amr_cycle.proofs.KeptLaws.{all_below_after, kept_rest}
+use Rattle.amr_cycle.proofs.ReadyLevels.{kept_anew, own_ready, ready_all, ready_anew}
 use Rattle.amr_cycle.proofs.Registers.{edges_stay}
 use Rattle.amr_cycle.proofs.Whole.{IsBegun, IsMade, IsOver, coarser_1, coarser_2, fits_2, flows_1, flows_2, flows_split, has2, kept_2, levels_are, next2_coarsenable, of_level_2, parents_2, part_1, part_2, placed_2, rest1_coarsenable, rest_coarsenable, small_2}
 use Rattle.amr_cycle.proofs.levels.+step_levels.Given as given
@@ -36,9 +35,9 @@ split g t c = record { part = c.requires.part; next = c.in-Some-split_first_mut.
 abbrev begun : (g : given.Over) (t : ℕ) (c : After-for_finer-inner g t) → IsBegun (split g t (goal.at.After-for_finer-inner g t c).In-Some-split_first_mut)
 begun g t c = record {
   before = arc_value c.in_ok-below.below.before;
-  same = c.in_ok-below.ensures.before;
+  same = c.in_ok-below.ensures.below.before;
   register = c.in_ok-below.below.regs.coarser;
-  has = c.in_ok-below.ensures.register;
+  has = c.in_ok-below.ensures.below.register;
   problem = c.for_finer-inner.result.problem.now;
   problem_is = c.for_finer-inner.ensures.problem;
   number = c.for_finer-inner.result.level;
@@ -76,10 +75,13 @@ step_levels-requires-clause-part g t c κs within =
     let at = goal.at.step_levels-requires-clause-part g t c in
     part_1 _ (begun g t at.After-for_finer-inner)
 
-pub step_levels-requires-clause-coarser : goal.step_levels-requires-clause-coarser
-step_levels-requires-clause-coarser g t c κs within =
-    let at = goal.at.step_levels-requires-clause-coarser g t c in
-    coarser_1 _ (begun g t at.After-for_finer-inner)
+pub step_coarse-requires-clause-coarser : goal.step_coarse-requires-clause-coarser
+step_coarse-requires-clause-coarser g t c κs within = c.requires.regs.coarser
+
+pub step_levels-requires-clause-regs : goal.step_levels-requires-clause-regs
+step_levels-requires-clause-regs g t c κs within =
+    let at = goal.at.step_levels-requires-clause-regs g t c in
+    record { coarser = coarser_1 _ (begun g t at.After-for_finer-inner); finer = c.in_ok-below.ensures.below.no_finer }
 
 pub step_levels-requires-clause-coarsenable : goal.step_levels-requires-clause-coarsenable
 step_levels-requires-clause-coarsenable g t c κs within =
@@ -89,22 +91,22 @@ step_levels-requires-clause-coarsenable g t c κs within =
 pub step_levels-requires-clause-inflow : goal.step_levels-requires-clause-inflow
 step_levels-requires-clause-inflow g t c κs within =
     let at = goal.at.step_levels-requires-clause-inflow g t c in
-    omega (arith, c.requires.inflow, c.in_ok-below.ensures.inflow, flows_split (split g t at.In-Some-split_first_mut) (inflow_beside c.args.given.now.problem.now), flows_1 _ (begun g t at.After-for_finer-inner) inflow_beside)
+    omega (arith, c.requires.inflow, c.in_ok-below.ensures.below.inflow, flows_split (split g t at.In-Some-split_first_mut) (inflow_beside c.args.given.now.problem.now), flows_1 _ (begun g t at.After-for_finer-inner) inflow_beside)
 
 pub step_levels-requires-clause-outflow : goal.step_levels-requires-clause-outflow
 step_levels-requires-clause-outflow g t c κs within =
     let at = goal.at.step_levels-requires-clause-outflow g t c in
-    omega (arith, c.requires.outflow, c.in_ok-below.ensures.outflow, flows_split (split g t at.In-Some-split_first_mut) (outflow_beside c.args.given.now.problem.now), flows_1 _ (begun g t at.After-for_finer-inner) outflow_beside)
+    omega (arith, c.requires.outflow, c.in_ok-below.ensures.below.outflow, flows_split (split g t at.In-Some-split_first_mut) (outflow_beside c.args.given.now.problem.now), flows_1 _ (begun g t at.After-for_finer-inner) outflow_beside)
 
 pub step_levels-requires-2-clause-part : goal.step_levels-requires-2-clause-part
 step_levels-requires-2-clause-part g t c κs within =
     let at = goal.at.step_levels-requires-2-clause-part g t c in
     part_2 _ _ (once g t at.In_ok-step_levels)
 
-pub step_levels-requires-2-clause-coarser : goal.step_levels-requires-2-clause-coarser
-step_levels-requires-2-clause-coarser g t c κs within =
-    let at = goal.at.step_levels-requires-2-clause-coarser g t c in
-    coarser_2 _ _ (once g t at.In_ok-step_levels)
+pub step_levels-requires-2-clause-regs : goal.step_levels-requires-2-clause-regs
+step_levels-requires-2-clause-regs g t c κs within =
+    let at = goal.at.step_levels-requires-2-clause-regs g t c in
+    record { coarser = coarser_2 _ _ (once g t at.In_ok-step_levels); finer = c.in_ok-step_levels.ensures.finer }
 
 pub step_levels-requires-2-clause-coarsenable : goal.step_levels-requires-2-clause-coarsenable
 step_levels-requires-2-clause-coarsenable g t c κs within =
@@ -117,7 +119,7 @@ step_levels-requires-2-clause-inflow g t c κs within =
     omega (
       arith,
       c.requires.inflow,
-      c.in_ok-below.ensures.inflow,
+      c.in_ok-below.ensures.below.inflow,
       c.in_ok-step_levels.ensures.inflow,
       flows_split (split g t at.In-Some-split_first_mut) (inflow_beside c.args.given.now.problem.now),
       flows_1 _ (begun g t at.After-for_finer-inner) inflow_beside,
@@ -130,7 +132,7 @@ step_levels-requires-2-clause-outflow g t c κs within =
     omega (
       arith,
       c.requires.outflow,
-      c.in_ok-below.ensures.outflow,
+      c.in_ok-below.ensures.below.outflow,
       c.in_ok-step_levels.ensures.outflow,
       flows_split (split g t at.In-Some-split_first_mut) (outflow_beside c.args.given.now.problem.now),
       flows_1 _ (begun g t at.After-for_finer-inner) outflow_beside,
@@ -145,9 +147,9 @@ correct-requires-clause-placed g t c κs within =
 pub correct-requires-clause-edges : goal.correct-requires-clause-edges
 correct-requires-clause-edges g t c κs within =
     let boxes = map box (patches_of (arc_value c.in_ok-below.below.before)) in
-    subst (λ (bs : List Extent). IfSome c.step_levels-2.new.regs.coarser (HasEdgesOf bs)) (c.in_ok-below.ensures.before_patches ∙ sym c.in_ok-below.ensures.patches)
+    subst (λ (bs : List Extent). IfSome c.step_levels-2.new.regs.coarser (HasEdgesOf bs)) (c.in_ok-below.ensures.below.before_patches ∙ sym c.in_ok-below.ensures.patches)
     (edges_stay boxes _ c.step_levels.new.regs.coarser c.step_levels-2.new.regs.coarser c.in_ok-step_levels-2.ensures.coarser
-    (edges_stay boxes _ c.in_ok-below.below.regs.coarser c.step_levels.new.regs.coarser c.in_ok-step_levels.ensures.coarser c.in_ok-below.ensures.edges))
+    (edges_stay boxes _ c.in_ok-below.below.regs.coarser c.step_levels.new.regs.coarser c.in_ok-step_levels.ensures.coarser c.in_ok-below.ensures.below.edges))
 
 pub correct-requires-clause-of_level : goal.correct-requires-clause-of_level
 correct-requires-clause-of_level g t c κs within =
@@ -197,7 +199,7 @@ returns-clause-inflow g t c =
     let at = goal.at.returns-clause-inflow g t c in
     omega (
       arith,
-      c.in_ok-below.ensures.inflow,
+      c.in_ok-below.ensures.below.inflow,
       c.in_ok-step_levels.ensures.inflow,
       c.in_ok-step_levels-2.ensures.inflow,
       flows_split (split g t at.In-Some-split_first_mut) (inflow_beside c.args.given.now.problem.now),
@@ -210,7 +212,7 @@ returns-clause-outflow g t c =
     let at = goal.at.returns-clause-outflow g t c in
     omega (
       arith,
-      c.in_ok-below.ensures.outflow,
+      c.in_ok-below.ensures.below.outflow,
       c.in_ok-step_levels.ensures.outflow,
       c.in_ok-step_levels-2.ensures.outflow,
       flows_split (split g t at.In-Some-split_first_mut) (outflow_beside c.args.given.now.problem.now),
@@ -227,77 +229,58 @@ step_levels-requires-2-clause-crew g t c κs within = λ tasks. rw (c.for_finer-
 pub correct-requires-clause-crew : goal.correct-requires-clause-crew
 correct-requires-clause-crew g t c κs within = λ tasks. rw (c.step_levels-2.ensures.workers, c.step_levels.ensures.workers, c.step_coarse.ensures.workers) (c.requires.crew tasks)
 
+-- ---- what is kept
+
 pub step_finest-requires-clause-kept : goal.step_finest-requires-clause-kept
-step_finest-requires-clause-kept g t c κs within = c.ready.ensures.kept c.args.given.now.problem.now c.args.given.now.level (kept_first c.args.given.now.problem.now c.args.given.now.level c.in-Some.own.now c.in-Some.rest.now c.args.kept.now c.in-Some.ensures.cases.0 c.requires.kept)
+step_finest-requires-clause-kept g t c κs within = own_ready c.args.given.now c.args.again (level_of c.args.level.now) (map level_of c.args.finer.now) c.in-Some.own.now c.in-Some.rest.now c.args.kept.now c.in-Some.ensures.cases.0 c.forget.new.kept c.forget.ensures c.requires.kept
 
 pub returns-in_default-split_first_mut-clause-kept : goal.returns-in_default-split_first_mut-clause-kept
 returns-in_default-split_first_mut-clause-kept g t c =
-    on_ok_weaker c.step_finest.result (λ first. kept_all c.args.given.now.problem.now c.args.given.now.level c.step_finest.new.own c.in-Some.rest.now first (kept_rest c.args.given.now.problem.now c.args.given.now.level c.in-Some.own.now c.in-Some.rest.now c.args.kept.now c.in-Some.ensures.cases.0 c.requires.kept)) c.step_finest.ensures.kept
+    let p = c.args.given.now.problem.now in
+    let l = c.args.given.now.level in
+    on_ok_weaker c.step_finest.result
+    (λ own. ready_all c.args.given.now (level_of c.step_finest.new.level) (map level_of c.args.finer.now) c.step_finest.new.own c.in-Some.rest.now own
+    (kept_rest p l (level_of c.args.level.now) (map level_of c.args.finer.now) c.in-Some.own.now c.in-Some.rest.now c.args.kept.now c.in-Some.ensures.cases.0 c.requires.kept.kept)) c.step_finest.ensures.kept
 
 pub step_coarse-requires-clause-kept : goal.step_coarse-requires-clause-kept
-step_coarse-requires-clause-kept g t c κs within = c.ready.ensures.kept c.args.given.now.problem.now c.args.given.now.level (kept_first c.args.given.now.problem.now c.args.given.now.level c.in-Some.own.now c.in-Some.rest.now c.args.kept.now c.in-Some.ensures.cases.0 c.requires.kept)
+step_coarse-requires-clause-kept g t c κs within = own_ready c.args.given.now c.args.again (level_of c.args.level.now) (map level_of c.args.finer.now) c.in-Some.own.now c.in-Some.rest.now c.args.kept.now c.in-Some.ensures.cases.0 c.forget.new.kept c.forget.ensures c.requires.kept
 
 pub step_levels-requires-clause-kept : goal.step_levels-requires-clause-kept
-step_levels-requires-clause-kept g t c κs within = rw (c.for_finer-inner.ensures.problem, c.for_finer-inner.ensures.level) (kept_rest c.args.given.now.problem.now c.args.given.now.level c.in-Some.own.now c.in-Some.rest.now c.args.kept.now c.in-Some.ensures.cases.0 c.requires.kept)
+step_levels-requires-clause-kept g t c κs within =
+    let p = c.args.given.now.problem.now in
+    let l = c.args.given.now.level in
+    let next = c.in-Some-split_first_mut.next.now in
+    let finest = c.in-Some-split_first_mut.finest.now in
+    let levels : map level_of c.args.finer.now ≡ level_of next ∷ map level_of finest = ap (map level_of) c.in-Some-split_first_mut.ensures.cases.0 in
+    let rest = kept_rest p l (level_of c.args.level.now) (map level_of c.args.finer.now) c.in-Some.own.now c.in-Some.rest.now c.args.kept.now c.in-Some.ensures.cases.0 c.requires.kept.kept in
+    ready_anew c.for_finer-inner.result p (l + 1) (level_of next ∷ map level_of finest) c.in-Some.rest.now c.for_finer-inner.ensures.problem c.for_finer-inner.ensures.level (subst (λ (ks : List Level). AreKept p (l + 1) ks c.in-Some.rest.now) levels rest)
+
+pub step_levels-requires-2-clause-kept : goal.step_levels-requires-2-clause-kept
+step_levels-requires-2-clause-kept g t c κs within = c.in_ok-step_levels.ensures.kept
 
 pub returns-clause-kept : goal.returns-clause-kept
 returns-clause-kept g t c =
     let at = goal.at.returns-clause-kept g t c in
     let p = c.args.given.now.problem.now in
+    let l = c.args.given.now.level in
     let k = level_of c.args.level.now in
     let fine = level_of c.in-Some-split_first_mut.next.now in
-    let finer =
-    subst (λ n. AreKept p n c.step_levels-2.new.kept) c.for_finer-inner.ensures.level (subst (λ (q : Problem). AreKept q c.for_finer-inner.result.level c.step_levels-2.new.kept) c.for_finer-inner.ensures.problem c.in_ok-step_levels-2.ensures.kept) in
-    let has =
-    has2 _ _ (once g t at.In_ok-step_levels) (twice g t at.In_ok-step_levels-2) in
+    let old = old_masses (option_copied c.args.given.now.old) in
+    let finest = map level_of c.step_levels-2.new.finer in
+    let has = has2 _ _ (once g t at.In_ok-step_levels) (twice g t at.In_ok-step_levels-2) in
     let same =
     subst (λ (o : Option Register). IfSome c.kept_of.result (λ (b : KeptBelow). (b.before ≡ arc_value c.in_ok-below.below.before) × (b.finer ≡ c.in_ok-below.below.finer) × (Some b.register ≡ o))) c.in_ok-correct.ensures.register c.kept_of.ensures in
     let edges =
     edges_stay (map box (patches_of (arc_value c.in_ok-below.below.before))) _ c.step_levels.new.regs.coarser c.step_levels-2.new.regs.coarser c.in_ok-step_levels-2.ensures.coarser
-    (edges_stay (map box (patches_of (arc_value c.in_ok-below.below.before))) _ c.in_ok-below.below.regs.coarser c.step_levels.new.regs.coarser c.in_ok-step_levels.ensures.coarser c.in_ok-below.ensures.edges) in
-    kept_all p c.args.given.now.level (record { layout = c.correct.new.kept; below = c.kept_of.result }) c.step_levels-2.new.kept
+    (edges_stay (map box (patches_of (arc_value c.in_ok-below.below.before))) _ c.in_ok-below.below.regs.coarser c.step_levels.new.regs.coarser c.in_ok-step_levels.ensures.coarser c.in_ok-below.ensures.below.edges) in
+    let finer = kept_anew c.for_finer-inner.result p (l + 1) (level_of c.step_levels-2.new.level ∷ finest) c.step_levels-2.new.kept c.for_finer-inner.ensures.problem c.for_finer-inner.ensures.level c.in_ok-step_levels-2.ensures.kept.kept in
+    ready_all c.args.given.now (level_of c.correct.new.level) (level_of c.correct.new.finer ∷ finest) (record { layout = c.correct.new.kept; below = c.kept_of.result }) c.step_levels-2.new.kept
     (record {
-      layout = c.in_ok-correct.ensures.kept;
-      below = all_below_after p c.args.given.now.level k fine _ c.kept_of.result (arc_value c.in_ok-below.below.before) c.in_ok-below.below.finer c.step_levels-2.new.regs.coarser c.in_ok-below.ensures.before c.in_ok-below.ensures.finer_boxes same has edges;
+      layout = c.in_ok-correct.ensures.kept p l (level_of c.step_coarse.new.level).masses old c.in_ok-below.ensures.kept.layout;
+      below = all_below_after p l k fine _ c.kept_of.result (arc_value c.in_ok-below.below.before) c.in_ok-below.below.finer c.step_levels-2.new.regs.coarser c.in_ok-below.ensures.below.before c.in_ok-below.ensures.below.finer_boxes same has edges;
     })
-    finer
+    (subst (λ (j : Level). AreKept p (l + 1) (j ∷ finest) c.step_levels-2.new.kept) (sym c.in_ok-correct.ensures.finer) finer)
 
-pub step_finest-requires-clause-current : goal.step_finest-requires-clause-current
-step_finest-requires-clause-current g t c κs within = c.ready.ensures.current (level_of c.args.level.now).masses (current_first (level_of c.args.level.now) (map level_of c.args.finer.now) c.in-Some.own.now c.in-Some.rest.now c.args.kept.now c.in-Some.ensures.cases.0 c.requires.current)
-
-pub returns-in_default-split_first_mut-clause-current : goal.returns-in_default-split_first_mut-clause-current
-returns-in_default-split_first_mut-clause-current g t c =
-    on_ok_weaker c.step_finest.result (λ first. current_all (level_of c.step_finest.new.level) (map level_of c.args.finer.now) c.step_finest.new.own c.in-Some.rest.now first (current_rest (level_of c.args.level.now) (map level_of c.args.finer.now) c.in-Some.own.now c.in-Some.rest.now c.args.kept.now c.in-Some.ensures.cases.0 c.requires.current)) c.step_finest.ensures.current
-
-pub step_coarse-requires-clause-current : goal.step_coarse-requires-clause-current
-step_coarse-requires-clause-current g t c κs within = c.ready.ensures.current (level_of c.args.level.now).masses (current_first (level_of c.args.level.now) (map level_of c.args.finer.now) c.in-Some.own.now c.in-Some.rest.now c.args.kept.now c.in-Some.ensures.cases.0 c.requires.current)
-
-pub step_levels-requires-clause-current : goal.step_levels-requires-clause-current
-step_levels-requires-clause-current g t c κs within =
-    current_rest (level_of c.args.level.now) (level_of c.in-Some-split_first_mut.next.now ∷ map level_of c.in-Some-split_first_mut.finest.now) c.in-Some.own.now c.in-Some.rest.now c.args.kept.now c.in-Some.ensures.cases.0
-    (subst (λ (hs : List Held). AreCurrent (level_of c.args.level.now ∷ map level_of hs) c.args.kept.now) c.in-Some-split_first_mut.ensures.cases.0 c.requires.current)
-
-pub returns-clause-current : goal.returns-clause-current
-returns-clause-current g t c =
-    let own : KeptLevel = record { layout = c.correct.new.kept; below = c.kept_of.result } in
-    let finest = map level_of c.step_levels-2.new.finer in
-    subst (λ (k : Level). AreCurrent (level_of c.correct.new.level ∷ k ∷ finest) (own ∷ c.step_levels-2.new.kept)) (sym c.in_ok-correct.ensures.finer)
-    (current_all (level_of c.correct.new.level) (level_of c.step_levels-2.new.level ∷ finest) own c.step_levels-2.new.kept c.in_ok-correct.ensures.current c.in_ok-step_levels-2.ensures.current)
-
-pub step_finest-requires-clause-valued : goal.step_finest-requires-clause-valued
-step_finest-requires-clause-valued g t c κs within =
-    let p = c.args.given.now.problem.now in
-    let old = old_masses (option_copied c.args.given.now.old) in
-    c.ready.ensures.valued p c.args.given.now.level old (λ again. valued_first p c.args.given.now.level old c.in-Some.own.now c.in-Some.rest.now c.args.kept.now c.in-Some.ensures.cases.0 (c.requires.valued again))
-
-pub step_coarse-requires-clause-valued : goal.step_coarse-requires-clause-valued
-step_coarse-requires-clause-valued g t c κs within =
-    let p = c.args.given.now.problem.now in
-    let old = old_masses (option_copied c.args.given.now.old) in
-    c.ready.ensures.valued p c.args.given.now.level old (λ again. valued_first p c.args.given.now.level old c.in-Some.own.now c.in-Some.rest.now c.args.kept.now c.in-Some.ensures.cases.0 (c.requires.valued again))
-
-pub returns-in_default-split_first_mut-clause-valued : goal.returns-in_default-split_first_mut-clause-valued
-returns-in_default-split_first_mut-clause-valued g t c = on_ok_weaker c.step_finest.result (λ first own. first) c.step_finest.ensures.valued
-
-pub returns-clause-valued : goal.returns-clause-valued
-returns-clause-valued g t c = λ own. c.in_ok-correct.ensures.valued c.args.given.now.level (old_masses (option_copied c.args.given.now.old)) c.in_ok-below.ensures.valued
+pub correct-requires-clause-kept : goal.correct-requires-clause-kept
+correct-requires-clause-kept g t c κs within =
+    kept_layout c.args.given.now.problem.now c.args.given.now.level (level_of c.step_coarse.new.level).masses (old_masses (option_copied c.args.given.now.old)) c.step_coarse.new.own.layout c.in_ok-below.ensures.kept.layout

@@ -13,7 +13,7 @@ use Rattle.amr_patch.specs.declared.levels.Level.{Level as Held}
 use Rattle.amr_patch.specs.Levels.{level_of}
 use Rattle.amr_patch.specs.Meshes.{state_of}
 use Rattle.amr_cycle.specs.declared.kept.KeptLevel.{KeptLevel}
-use Rattle.amr_cycle.specs.Kept.{AreCurrent, AreKept}
+use Rattle.amr_cycle.specs.Kept.{AreKept}
 use Rattle.amr_cycle.proofs.Coarsenable.{same_count}
 use Rattle.amr_cycle.proofs.StateSteps.{adds, is_stepped, subtracts}
 use Rattle.amr_cycle.proofs.steps.step_kept.Given as given
@@ -53,16 +53,16 @@ returns-clause-sound g c = subst (IsSound c.args.p.now) (sym (value_of g c)) (st
 listed : (g : given.Over) (c : goal.After-drop-mesh-2 g) → (with_items c.in_ok-of_levels.of_levels c.step_all.new.kept).items ≡ c.step_all.new.kept
 listed g c = with_items_is c.in_ok-of_levels.of_levels c.step_all.new.kept (omega (arith, c.in_ok-flows.ensures.kept_count, c.as_mut_slice-2.ensures.len))
 
+pub step_all-requires-clause-kept : goal.step_all-requires-clause-kept
+step_all-requires-clause-kept g c κs within =
+    let p = c.args.p.now in
+    let before = (state_of c.args.mesh.now).levels in
+    let levels : map level_of c.as_mut_slice.result.now ≡ before = ap (map level_of) c.as_mut_slice.ensures.value ∙ c.take-rows.ensures.levels in
+    let kept = subst (λ (o : Option (Vec KeptLevel)). IfSome o (λ ks. AreKept p 0 before ks.items)) (sym c.take.ensures.value) c.requires.kept.levels_kept in
+    subst (λ (ls : List Level). AreKept p 0 ls c.as_mut_slice-2.result.now) (sym levels) (subst (AreKept p 0 before) (sym c.as_mut_slice-2.ensures.value) (c.in_ok-of_levels.ensures.kept p before kept))
+
 pub returns-clause-kept : goal.returns-clause-kept
-returns-clause-kept g c = record { levels = subst (AreKept c.args.p.now 0) (sym (listed g c)) c.in_ok-flows.ensures.kept }
-
-pub step_all-requires-clause-current : goal.step_all-requires-clause-current
-step_all-requires-clause-current g c κs within =
-    let levels : map level_of c.as_mut_slice.result.now ≡ (state_of c.args.mesh.now).levels = ap (map level_of) c.as_mut_slice.ensures.value ∙ c.take-rows.ensures.levels in
-    subst (λ (ls : List Level). AreCurrent ls c.as_mut_slice-2.result.now) (sym levels)
-    (subst (AreCurrent (state_of c.args.mesh.now).levels) (sym c.as_mut_slice-2.ensures.value) (c.in_ok-of_levels.ensures.current (state_of c.args.mesh.now).levels (subst (λ (o : Option (Vec KeptLevel)). IfSome o (λ ks. AreCurrent (state_of c.args.mesh.now).levels ks.items)) (sym c.take.ensures.value) c.requires.current)))
-
-pub returns-clause-current : goal.returns-clause-current
-returns-clause-current g c =
+returns-clause-kept g c =
+    let p = c.args.p.now in
     let levels = ap (λ (s : State). s.levels) (new_state g c) in
-    subst (AreCurrent (state_of c.of.result).levels) (sym (listed g c)) (subst (λ (ls : List Level). AreCurrent ls c.step_all.new.kept) (sym levels) c.in_ok-flows.ensures.current)
+    record { levels_kept = subst (AreKept p 0 (state_of c.of.result).levels) (sym (listed g c)) (subst (λ (ls : List Level). AreKept p 0 ls c.step_all.new.kept) (sym levels) c.in_ok-flows.ensures.kept) }

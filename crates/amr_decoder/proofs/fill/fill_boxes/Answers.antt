@@ -1,7 +1,6 @@
 use Rattle.std.proofs.Common.{◌∙◌, List, map, take, sym, ap, subst, arith}
 use Rattle.std.proofs.lemmas.List.{length-map}
 use Rattle.amr_box.specs.Cells.{Extent, in_boxes}
-use Rattle.amr_codec.specs.MassWidths.{width_of}
 use Rattle.amr_patch.proofs.Standing.{order_of_boxes}
 use Rattle.amr_payload.specs.Tests as tests
 use Rattle.amr_decoder.specs.declared.grid.Grid.{Grid}
@@ -32,13 +31,12 @@ fill_box-requires-clause-placed c =
 
 pub loop-grid-preserved : goal.loop-grid-preserved
 loop-grid-preserved c =
-    let w = width_of c.args.width in
     let bytes = c.args.bytes.now in
     let gs = c.args.grids.now in
     let i = c.loop-grid.grid-index in
     let g = c.grid-item.result in
-    let f : Grid → tests.Grid = grid_of w bytes in
+    let f : Grid → tests.Grid = grid_of bytes in
     subst (λ (vs : List tests.Grid). AreGridsSet vs c.args.patches.now c.fill_box.new.patches) (one_more f gs i g c.loop-grid-test.true c.grid-item.is)
     (box_filled (map f (take i gs)) (f g) c.args.patches.now c.loop-grid.patches c.fill_box.new.patches
-    (λ d before held. apart_before gs i g d c.requires.disjoint c.loop-grid-test.true c.grid-item.is (ap (λ (bs : List Extent). in_boxes bs d) (sym (boxes_of_grids w bytes (take i gs))) ∙ before) held)
+    (λ d before held. apart_before gs i g d c.requires.disjoint c.loop-grid-test.true c.grid-item.is (ap (λ (bs : List Extent). in_boxes bs d) (sym (boxes_of_grids bytes (take i gs))) ∙ before) held)
     c.loop-grid.invariant c.in_ok-fill_box.ensures)

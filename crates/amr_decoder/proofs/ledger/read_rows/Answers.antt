@@ -1,33 +1,27 @@
-use Rattle.std.proofs.Common.{◌+◌, ◌-◌, List, arith, sym, ap, ◌∙◌}
+use Rattle.std.proofs.Common.{◌∙◌}
 use Rattle.std.proofs.lemmas.Result.{err_from_is_err_and}
-use Rattle.amr_def.specs.declared.problem.Row.{Row}
-use Rattle.amr_payload.specs.Tests.{read_rows, read_rows_after}
+use Rattle.amr_payload.specs.Tests.{read_joined, read_rows, read_rows_after}
 use Rattle.amr_decoder.specs.Lefts.{left_of}
-use Rattle.amr_decoder.proofs.Lists.{all_read, also_all, bad_next, more}
-use Rattle.amr_decoder.proofs.Rows.{row_bad, row_next, rows_end}
+use Rattle.amr_decoder.proofs.Ledgers.{first_bad, first_then}
+use Rattle.amr_decoder.proofs.Readings.{fault_same}
 use Rattle.amr_decoder.proofs.ledger.read_rows.Goals as goal
 
-pub loop-k-preserved : goal.loop-k-preserved
-loop-k-preserved c =
-    let l = c.loop-k in
-    let n = c.args.count in
-    let before = left_of l.r in
-    let after = left_of c.read_row_after.new.r in
-    more (read_rows n (left_of c.args.r.now)) l.rows.items c.in_ok-last.last (read_rows_after (n - l._k) l.last before) (read_rows_after (n - (l._k + 1)) c.in_ok-last.last after) l.invariant
-    (row_next n l._k l.last c.in_ok-last.last before after c.loop-k-test.true c.in_ok-last.ensures.read)
-    ∙ ap (λ (rows : List Row). also_all rows (read_rows_after (n - (l._k + 1)) c.in_ok-last.last after)) (sym c.in_ok-push.ensures.items)
+pub returns-in_err-first-clause-bad : goal.returns-in_err-first-clause-bad
+returns-in_err-first-clause-bad c =
+    let q = err_from_is_err_and c.from_residual.result c.from_residual.ensures.1 in
+    rw (q.1, q.2) (first_bad c.args.count (left_of c.args.reader.now) c.in_err-first.field-0.0 c.in_err-first.ensures.bad)
 
-pub returns-in_err-last-clause-bad : goal.returns-in_err-last-clause-bad
-returns-in_err-last-clause-bad c =
-    let l = c.loop-k in
+pub returns-in_err-read_rows_after-clause-bad : goal.returns-in_err-read_rows_after-clause-bad
+returns-in_err-read_rows_after-clause-bad c =
     let n = c.args.count in
-    let p = err_from_is_err_and c.from_residual-in_err-last.result c.from_residual-in_err-last.ensures.1 in
-    rw (p.1, p.2) (bad_next (read_rows n (left_of c.args.r.now)) l.rows.items (read_rows_after (n - l._k) l.last (left_of l.r)) c.in_err-last.field-0.0 l.invariant
-    (row_bad n l._k l.last (left_of l.r) c.in_err-last.field-0.0 c.loop-k-test.true c.in_err-last.ensures.bad))
+    let r = left_of c.args.reader.now in
+    let a = left_of c.read_first_row.new.reader in
+    let v = c.in_ok-first.first in
+    let q = err_from_is_err_and c.from_residual-in_err-read_rows_after.result c.from_residual-in_err-read_rows_after.ensures.1 in
+    rw (q.1, q.2) (fault_same (read_rows n r) (read_joined c.in_ok-rows.rows.items (read_rows_after n v a)) c.in_err-read_rows_after.field-0.0
+    (first_then n r a v c.in_ok-rows.rows.items c.in_ok-rows.ensures.items c.in_ok-first.ensures.read) c.in_err-read_rows_after.ensures.bad)
 
 pub returns-clause-read : goal.returns-clause-read
 returns-clause-read c =
-    let l = c.loop-k in
-    let n = c.args.count in
-    all_read (read_rows n (left_of c.args.r.now)) l.rows.items (read_rows_after (n - l._k) l.last (left_of l.r)) (left_of l.r) l.invariant
-    (rows_end n l._k l.last (left_of l.r) (omega (arith, c.loop-k-test.false)))
+    first_then c.args.count (left_of c.args.reader.now) (left_of c.read_first_row.new.reader) c.in_ok-first.first c.in_ok-rows.rows.items c.in_ok-rows.ensures.items c.in_ok-first.ensures.read
+    ∙ c.in_ok-read_rows_after.ensures.read

@@ -9,7 +9,6 @@ use Rattle.std.proofs.Common.{ℕ}
 use Rattle.amr_box.specs.declared.Cell.{Cell}
 use Rattle.amr_box.specs.Cells.{Extent, in_boxes}
 use Rattle.amr_boxlist.specs.Chopped.{chopped}
-use Rattle.amr_codec.specs.MassWidths.{width_of}
 use Rattle.amr_def.specs.State.{Masses}
 use Rattle.amr_patch.specs.declared.patches.Patch.{Patch}
 use Rattle.amr_patch.specs.Levels.{level_of, patches_of}
@@ -55,15 +54,14 @@ put_patches_in_order-requires-clause-order c =
 pub returns-clause-level : goal.returns-clause-level
 returns-clause-level c =
     let gs = c.args.grids.now in
-    let w = width_of c.args.width in
     let bytes = c.args.bytes.now in
     let ps = c.take_patches-patches.result.items in
     let new = c.fill_boxes.new.patches in
     let items = with_items_is c.take_patches-patches.result new (c.fill_boxes.auto.patches ∙ c.deref_mut.ensures.len) in
-    let filled : AreGridsSet (map (grid_of w bytes) gs) ps new = subst (λ (qs : List Patch). AreGridsSet (map (grid_of w bytes) gs) qs new) c.deref_mut.ensures.value c.in_ok-fill_boxes.ensures in
+    let filled : AreGridsSet (map (grid_of bytes) gs) ps new = subst (λ (qs : List Patch). AreGridsSet (map (grid_of bytes) gs) qs new) c.deref_mut.ensures.value c.in_ok-fill_boxes.ensures in
     let blank : (d : Cell) → masses_in ps d ≡ cond {A = Option ℕ} (in_boxes (boxes_of gs) d) (Some 0) None = λ d. ap (λ (m : Masses). m d) (sym c.take_patches-patches.ensures.masses) ∙ c.in_ok-level.ensures.masses d in
     let boxes = c.put_patches_in_order.ensures.boxes ∙ c.take_patches-patches.ensures.boxes ∙ c.in_ok-level.ensures.boxes in
-    made_level w bytes gs ps new (level_of c.put_patches_in_order.new.self) boxes (c.put_patches_in_order.ensures.masses ∙ ap masses_in items) blank filled
+    made_level bytes gs ps new (level_of c.put_patches_in_order.new.self) boxes (c.put_patches_in_order.ensures.masses ∙ ap masses_in items) blank filled
 
 pub returns-clause-chopped : goal.returns-clause-chopped
 returns-clause-chopped c =

@@ -9,8 +9,8 @@ use Rattle.amr_decoder.proofs.masses.read_masses.Goals as goal
 
 pub returns-clause-read : goal.returns-clause-read
 returns-clause-read c =
-    let w = width_of c.args.kind.width in
-    let r0 = left_of c.args.r.now in
+    let w = width_of c.args.width in
+    let r0 = left_of c.args.reader.now in
     let k = c.pass_masses-passed.result in
     let e = c.pass_masses-passed.ensures in
     let all : k ≡ c.args.count = omega (arith, e.most, c.if-passed-count.false) in
@@ -20,8 +20,8 @@ returns-clause-read c =
 
 pub returns-then-passed-count-clause-bad : goal.returns-then-passed-count-clause-bad
 returns-then-passed-count-clause-bad c =
-    let w = width_of c.args.kind.width in
-    let r0 = left_of c.args.r.now in
+    let w = width_of c.args.width in
+    let r0 = left_of c.args.reader.now in
     let k = c.pass_masses-passed.result in
     let e = c.pass_masses-passed.ensures in
     tested_bad w c.args.p.now c.args.kind.step c.args.kind.level c.greatest_mass-greatest.result c.args.count k r0 c.greatest_mass-greatest.ensures.value e.most e.inside e.within c.if-passed-count.true (e.next c.if-passed-count.true)
@@ -30,8 +30,8 @@ returns-then-passed-count-clause-bad c =
 pub returns-clause-inside : goal.returns-clause-inside
 unfolding left_of whole_of
 returns-clause-inside c =
-    let w = width_of c.args.kind.width in
-    let r = c.args.r.now in
+    let w = width_of c.args.width in
+    let r = c.args.reader.now in
     let k = c.pass_masses-passed.result in
     let e = c.pass_masses-passed.ensures in
     let all : k ≡ c.args.count = omega (arith, e.most, c.if-passed-count.false) in

@@ -1,7 +1,7 @@
 use Rattle.std.proofs.Common.{refl, arith}
 use Rattle.std.proofs.lemmas.Int.{ints}
 use Rattle.amr_decoder.specs.Synced.{IsSumAt}
-use Rattle.amr_decoder.proofs.Fours.{more_columns}
+use Rattle.amr_codec.proofs.KeptRows.{more_columns}
 use Rattle.amr_decoder.proofs.sync.is_row_in_sync.Goals as goal
 
 pub sums_from-requires-clause-column : goal.sums_from-requires-clause-column

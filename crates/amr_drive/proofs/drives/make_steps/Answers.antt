@@ -2,7 +2,7 @@ use Rattle.std.proofs.Common.{◌≡◌, ◌∙◌, ◌⊎◌, inl, inr, suc, re
 use Rattle.amr_def.specs.State.{State}
 use Rattle.amr_def.specs.Facts.{IsSound}
 use Rattle.amr_def.specs.Run.{finish, next}
-use Rattle.amr_def.proofs.Runs.{finish_step}
+use Rattle.amr_def.proofs.Runs.{finish_step, resumes}
 use Rattle.amr_patch.specs.Meshes.{is_spent, state_of}
 use Rattle.amr_drive.specs.States.{states_after}
 use Rattle.amr_drive.specs.declared.drives.DriveFault.TheVariants.{After, NoMemory}
@@ -17,8 +17,7 @@ loop-step-init g c =
       workers = refl;
       whole = c.requires.may.whole;
       value = sym (finish_here p s c.step-step.result (sym c.step-step.ensures));
-      kept = c.nothing-kept.ensures.kept p;
-      current = c.nothing-kept.ensures.current s.levels;
+      kept = c.nothing-kept.ensures p s.levels;
       patches = λ h. h;
       coarsenable = c.requires.may.coarsenable;
       made = subst (λ (ss : List State). g.A.AfterStep.made c.args.after.now ss (Ok tt) c.args.after.now) (sym (none_after p s c.step-step.result c.step-step.ensures)) (g.met.A.AfterStep.made_none c.args.after.now);
@@ -43,9 +42,6 @@ make_step-requires-clause-coarsenable g c κs within = c.loop-step.invariant.coa
 
 pub make_step-requires-clause-kept : goal.make_step-requires-clause-kept
 make_step-requires-clause-kept g c κs within = c.loop-step.invariant.kept
-
-pub make_step-requires-clause-current : goal.make_step-requires-clause-current
-make_step-requires-clause-current g c κs within = c.loop-step.invariant.current
 
 pub make_step-requires-clause-crew : goal.make_step-requires-clause-crew
 make_step-requires-clause-crew g c κs within = λ tasks. rw c.loop-step.invariant.workers (c.requires.crew tasks)
@@ -110,15 +106,15 @@ loop-step-preserved g c =
       whole = said.whole;
       value = said.value ∙ state;
       kept = said.kept;
-      current = said.current;
       patches = λ h. said.patches said.whole (c.loop-step.invariant.patches h);
       coarsenable = said.coarsenable said.whole;
       made = subst (λ (ss : List State). g.A.AfterStep.made c.args.after.now ss (Ok tt) c.make_step.new.after) (after_more p s k (next p (state_of c.loop-step.mesh)) from state ∙ ap (states_after p s) count)
           (g.met.A.AfterStep.made_more c.args.after.now c.loop-step.after c.make_step.new.after (states_after p s (k - s.step)) (next p (state_of c.loop-step.mesh)) (Ok tt) c.loop-step.invariant.made said.answer);
       ready = λ j more upto.
-          let at = finish_step p s j (omega (arith, from, more)) in
           let here = ap (λ (t : State). t.step) state ∙ finish_step p s (k + 1) (omega (arith, from)) in
-          said.ready (finish p s j) (omega (arith, at, here, more)) (c.loop-step.invariant.ready j (omega (arith, more)) upto);
+          let same : finish p (next p (state_of c.loop-step.mesh)) j ≡ finish p s j = ap (λ (t : State). finish p t j) state ∙ resumes p s (k + 1) j (omega (arith, from)) (omega (arith, more)) in
+          subst (g.A.AfterStep.ready c.make_step.new.after) same
+          (said.ready p j (omega (arith, here, more)) (subst (g.A.AfterStep.ready c.loop-step.after) (sym same) (c.loop-step.invariant.ready j (omega (arith, more)) upto)));
     }
 
 pub returns : goal.returns

@@ -1,87 +1,23 @@
-use Rattle.std.proofs.Common.{◌≡◌, ℕ, ◌+◌, ◌^◌, ◌<◌, pos, ◌+ℤ◌, ◌≤ℤ◌, ◌<ℤ◌, [], false, refl, ap, ◌∙◌, arith, rules}
-use Rattle.std.specs.Prelude.{slice_index, slice_index_or}
-use Rattle.std.proofs.lemmas.List.{with_items_is}
-use Rattle.amr_patch.specs.declared.patches.PatchData.{PatchData}
-use Rattle.amr_patch.specs.Places.{place}
-use Rattle.amr_patch.specs.Patches.{flux_in, mark_in}
-use Rattle.amr_patch.proofs.Rows.{sides}
-use Rattle.amr_flux.specs.Rooms.{widest}
-use Rattle.amr_flux.specs.Tables.{IsOtherPlace, net_inflow, value, x_through, y_through}
-use Rattle.amr_flux.proofs.Owned.{x_small, y_small}
-use Rattle.amr_flux.proofs.Updates.{each_at, frame_stays, masses_are, moved, same_along}
-use Rattle.amr_flux.proofs.Alone.{alone_fluxes, none_marked}
-use Rattle.amr_box.specs.Cells.{cell}
+use Rattle.std.proofs.Common.{◌^◌, ℤ, pos, ◌+ℤ◌, ◌≤ℤ◌, ◌<ℤ◌, sym, ap, subst, ◌∙◌, arith}
+use Rattle.amr_patch.specs.Patches.{mass_in}
+use Rattle.amr_flux.proofs.Alone.{alone, none_handed}
 use Rattle.amr_flux.proofs.masses.update_alone.Goals as goal
 
-pub update_cells-requires-clause-columns_inside : goal.update_cells-requires-clause-columns_inside
-update_cells-requires-clause-columns_inside c = rw (c.shape_of-shape.ensures.columns, c.shape_of-shape.ensures.level) c.shape_of-shape.ensures.stands.columns_fit
-
-pub update_cells-requires-clause-rows_inside : goal.update_cells-requires-clause-rows_inside
-update_cells-requires-clause-rows_inside c = rw (c.shape_of-shape.ensures.rows, c.shape_of-shape.ensures.level) c.shape_of-shape.ensures.stands.rows_fit
-
-pub update_cells-requires-clause-some : goal.update_cells-requires-clause-some
-update_cells-requires-clause-some c = omega (arith, c.shape_of-shape.ensures.rows, (sides c.args.patch.now.bx c.args.patch.now.near).some_rows)
-
-pub update_cells-requires-clause-enough : goal.update_cells-requires-clause-enough
-update_cells-requires-clause-enough c = omega (arith, none_marked c.shape_of-shape.result.w c.shape_of-shape.result.h)
-
-pub update_cells-requires-clause-x_small : goal.update_cells-requires-clause-x_small
-update_cells-requires-clause-x_small c = rw (c.shape_of-shape.ensures.columns, c.shape_of-shape.ensures.rows, c.deref_mut.ensures.value, c.deref_mut-data.ensures.value) (x_small c.args.patch.now c.requires.small)
-
-pub update_cells-requires-clause-y_small : goal.update_cells-requires-clause-y_small
-update_cells-requires-clause-y_small c = rw (c.shape_of-shape.ensures.columns, c.shape_of-shape.ensures.rows, c.deref_mut.ensures.value, c.deref_mut-data.ensures.value) (y_small c.args.patch.now c.requires.small)
-
-pub update_cells-requires-clause-kept : goal.update_cells-requires-clause-kept
-update_cells-requires-clause-kept c =
+pub update_by-requires : goal.update_by-requires
+update_by-requires c =
+    let p = c.args.p.now in
+    let l = c.args.l in
     let q = c.args.patch.now in
-    let r = c.shape_of-shape.result in
-    rw (c.shape_of-shape.ensures.columns, c.shape_of-shape.ensures.rows, c.shape_of-shape.ensures.level, c.deref_mut.ensures.value, c.deref_mut-data.ensures.value) (each_at q _ _ _ (alone_fluxes c.args.p.now c.args.l q r.column r.row c.shape_of-shape.ensures.stands) (λ z. pos 0 ≤ℤ z) c.requires.kept)
-
-pub update_cells-requires-clause-fits : goal.update_cells-requires-clause-fits
-update_cells-requires-clause-fits c =
-    let q = c.args.patch.now in
-    let r = c.shape_of-shape.result in
-    rw (c.shape_of-shape.ensures.columns, c.shape_of-shape.ensures.rows, c.shape_of-shape.ensures.level, c.deref_mut.ensures.value, c.deref_mut-data.ensures.value) (each_at q _ _ _ (alone_fluxes c.args.p.now c.args.l q r.column r.row c.shape_of-shape.ensures.stands) (λ z. z <ℤ pos (2 ^ 32)) c.requires.fits)
+    record {
+      level = c.requires.level;
+      inside = c.requires.inside;
+      border_count = none_handed q;
+      small = c.requires.small;
+      border_small = record { at = λ k h. absurd (omega (arith, h)) };
+      kept = λ d h. subst (λ (z : ℤ). pos 0 ≤ℤ (pos (mass_in q d) +ℤ z)) (sym (alone p l q d)) (c.requires.kept d h);
+      fits = λ d h. subst (λ (z : ℤ). (pos (mass_in q d) +ℤ z) <ℤ pos (2 ^ 32)) (sym (alone p l q d)) (c.requires.fits d h);
+      room = c.requires.room;
+    }
 
 pub returns-clause-masses : goal.returns-clause-masses
-returns-clause-masses c =
-    let p = c.args.p.now in
-    let q = c.args.patch.now in
-    let held : c.deref_mut-data.result.now ≡ q.data.value = c.deref_mut-data.ensures.value in
-    let row = c.shape_of-shape.result.row in
-    let column = c.shape_of-shape.result.column in
-    let e = c.shape_of-shape.ensures in
-    let vs = c.update_cells.new.values in
-    masses_are q _ _ _ (alone_fluxes p c.args.l q column row e.stands) _ refl vs (with_items_is c.deref_mut-data.result.now.values vs (search rules))
-    (moved (λ l w h v m. (i j : ℕ) → i < w → j < h → pos (value w vs (i + 1) (j + 1)) ≡ pos (value w v (i + 1) (j + 1)) +ℤ net_inflow (x_through p l row w m [] v) (y_through p l column w h m [] v) i j) {m = []} {m' = []} e.level e.columns e.rows (c.deref_mut.ensures.value ∙ ap (λ (t : PatchData). t.values.items) held) refl c.update_cells.ensures.made)
-
-pub returns-clause-frame : goal.returns-clause-frame
-returns-clause-frame c =
-    let q = c.args.patch.now in
-    let held : c.deref_mut-data.result.now ≡ q.data.value = c.deref_mut-data.ensures.value in
-    let e = c.shape_of-shape.ensures in
-    let vs = c.update_cells.new.values in
-    frame_stays q _ vs refl (with_items_is c.deref_mut-data.result.now.values vs (search rules))
-    (moved (λ l w h v m. (k : ℕ) → IsOtherPlace w h k → slice_index vs k ≡ slice_index v k) {m = []} {m' = []} e.level e.columns e.rows (c.deref_mut.ensures.value ∙ ap (λ (t : PatchData). t.values.items) held) refl c.update_cells.ensures.others)
-
-pub returns-clause-marks : goal.returns-clause-marks
-unfolding mark_in
-returns-clause-marks c = λ d. ap (λ (t : PatchData). slice_index_or t.marks.items (place c.args.patch.now.bx d) false) c.deref_mut-data.ensures.value
-
-pub returns-clause-fluxes : goal.returns-clause-fluxes
-unfolding flux_in
-returns-clause-fluxes c =
-    let q = c.args.patch.now in
-    let held : c.deref_mut-data.result.now ≡ q.data.value = c.deref_mut-data.ensures.value in
-    λ f. same_along q _ f.axis (cell f.x f.y) refl (ap (λ (t : PatchData). t.x_low.items) held) (ap (λ (t : PatchData). t.x_high.items) held) (ap (λ (t : PatchData). t.y_low.items) held) (ap (λ (t : PatchData). t.y_high.items) held)
-
-pub update_cells-requires-clause-room : goal.update_cells-requires-clause-room
-unfolding widest
-update_cells-requires-clause-room c = omega (arith, c.shape_of-shape.ensures.columns, c.requires.room)
-
-pub returns-clause-room : goal.returns-clause-room
-unfolding widest
-returns-clause-room c = c.update_cells.ensures.room
-
-pub update_cells-requires-clause-some_columns : goal.update_cells-requires-clause-some_columns
-update_cells-requires-clause-some_columns c = omega (arith, c.shape_of-shape.ensures.columns, (sides c.args.patch.now.bx c.args.patch.now.near).some_columns)
+returns-clause-masses c = λ d h. c.update_by.ensures.masses d h ∙ ap (λ (z : ℤ). pos (mass_in c.args.patch.now d) +ℤ z) (alone c.args.p.now c.args.l c.args.patch.now d)

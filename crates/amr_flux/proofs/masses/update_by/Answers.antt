@@ -12,35 +12,26 @@ use Rattle.amr_flux.proofs.Updates.{each_at, enough, frame_stays, given_fluxes, 
 use Rattle.amr_box.specs.Cells.{cell}
 use Rattle.amr_flux.proofs.masses.update_by.Goals as goal
 
-pub update_cells-requires-clause-columns_inside : goal.update_cells-requires-clause-columns_inside
-update_cells-requires-clause-columns_inside c = rw (c.shape_of-shape.ensures.columns, c.shape_of-shape.ensures.level) c.shape_of-shape.ensures.stands.columns_fit
-
-pub update_cells-requires-clause-rows_inside : goal.update_cells-requires-clause-rows_inside
-update_cells-requires-clause-rows_inside c = rw (c.shape_of-shape.ensures.rows, c.shape_of-shape.ensures.level) c.shape_of-shape.ensures.stands.rows_fit
-
-pub update_cells-requires-clause-some : goal.update_cells-requires-clause-some
-update_cells-requires-clause-some c = omega (arith, c.shape_of-shape.ensures.rows, (sides c.args.patch.now.bx c.args.patch.now.near).some_rows)
-
-pub update_cells-requires-clause-enough : goal.update_cells-requires-clause-enough
-update_cells-requires-clause-enough c = rw (c.shape_of-shape.ensures.columns, c.shape_of-shape.ensures.rows) (enough c.args.patch.now c.args.mask.now c.args.border.now c.requires.border_count)
-
-pub update_cells-requires-clause-x_small : goal.update_cells-requires-clause-x_small
-update_cells-requires-clause-x_small c = rw (c.shape_of-shape.ensures.columns, c.shape_of-shape.ensures.rows, c.deref_mut.ensures.value, c.deref_mut-data.ensures.value) (x_small c.args.patch.now c.requires.small)
-
-pub update_cells-requires-clause-y_small : goal.update_cells-requires-clause-y_small
-update_cells-requires-clause-y_small c = rw (c.shape_of-shape.ensures.columns, c.shape_of-shape.ensures.rows, c.deref_mut.ensures.value, c.deref_mut-data.ensures.value) (y_small c.args.patch.now c.requires.small)
-
-pub update_cells-requires-clause-kept : goal.update_cells-requires-clause-kept
-update_cells-requires-clause-kept c =
+pub update_cells-requires-clause-ready : goal.update_cells-requires-clause-ready
+update_cells-requires-clause-ready c =
     let q = c.args.patch.now in
     let r = c.shape_of-shape.result in
-    rw (c.shape_of-shape.ensures.columns, c.shape_of-shape.ensures.rows, c.shape_of-shape.ensures.level, c.deref_mut.ensures.value, c.deref_mut-data.ensures.value) (each_at q _ _ _ (given_fluxes c.args.p.now c.args.l q r.column r.row c.shape_of-shape.ensures.stands c.args.mask.now c.args.border.now) (λ z. pos 0 ≤ℤ z) c.requires.kept)
-
-pub update_cells-requires-clause-fits : goal.update_cells-requires-clause-fits
-update_cells-requires-clause-fits c =
-    let q = c.args.patch.now in
-    let r = c.shape_of-shape.result in
-    rw (c.shape_of-shape.ensures.columns, c.shape_of-shape.ensures.rows, c.shape_of-shape.ensures.level, c.deref_mut.ensures.value, c.deref_mut-data.ensures.value) (each_at q _ _ _ (given_fluxes c.args.p.now c.args.l q r.column r.row c.shape_of-shape.ensures.stands c.args.mask.now c.args.border.now) (λ z. z <ℤ pos (2 ^ 32)) c.requires.fits)
+    let e = c.shape_of-shape.ensures in
+    let all = sides q.bx q.near in
+    let fluxes = given_fluxes c.args.p.now c.args.l q r.column r.row e.stands c.args.mask.now c.args.border.now in
+    record {
+      level = omega (arith, e.level, c.requires.level);
+      columns_inside = rw (e.columns, e.level) e.stands.columns_fit;
+      rows_inside = rw (e.rows, e.level) e.stands.rows_fit;
+      some_columns = omega (arith, e.columns, all.some_columns);
+      some_rows = omega (arith, e.rows, all.some_rows);
+      value_count = rw (e.columns, e.rows, c.deref_mut.ensures.value, c.deref_mut-data.ensures.value) q.value_count;
+      are_sizes = rw (e.columns, e.rows) (record { enough = enough q c.args.mask.now c.args.border.now c.requires.border_count; small = c.requires.border_small });
+      x_small = rw (e.columns, e.rows, c.deref_mut.ensures.value, c.deref_mut-data.ensures.value) (x_small q c.requires.small);
+      y_small = rw (e.columns, e.rows, c.deref_mut.ensures.value, c.deref_mut-data.ensures.value) (y_small q c.requires.small);
+      kept = rw (e.columns, e.rows, e.level, c.deref_mut.ensures.value, c.deref_mut-data.ensures.value) (each_at q _ _ _ fluxes (λ z. pos 0 ≤ℤ z) c.requires.kept);
+      fits = rw (e.columns, e.rows, e.level, c.deref_mut.ensures.value, c.deref_mut-data.ensures.value) (each_at q _ _ _ fluxes (λ z. z <ℤ pos (2 ^ 32)) c.requires.fits);
+    }
 
 pub returns-clause-masses : goal.returns-clause-masses
 returns-clause-masses c =
@@ -53,7 +44,7 @@ returns-clause-masses c =
     let e = c.shape_of-shape.ensures in
     let vs = c.update_cells.new.values in
     masses_are q _ _ _ (given_fluxes p c.args.l q column row e.stands c.args.mask.now border) _ refl vs (with_items_is c.deref_mut-data.result.now.values vs (search rules))
-    (moved (λ l w h v m. (i j : ℕ) → i < w → j < h → pos (value w vs (i + 1) (j + 1)) ≡ pos (value w v (i + 1) (j + 1)) +ℤ net_inflow (x_through p l row w m border v) (y_through p l column w h m border v) i j) {m = c.args.mask.now} {m' = c.args.mask.now} e.level e.columns e.rows (c.deref_mut.ensures.value ∙ ap (λ (t : PatchData). t.values.items) held) refl c.update_cells.ensures.made)
+    (moved (λ l w h v m. (i j : ℕ) → i < w → j < h → pos (value w vs (i + 1) (j + 1)) ≡ pos (value w v (i + 1) (j + 1)) +ℤ net_inflow (x_through p l row w m border v) (y_through p l column w h m border v) i j) {m = c.args.mask.now} {m' = c.args.mask.now} e.level e.columns e.rows (c.deref_mut.ensures.value ∙ ap (λ (t : PatchData). t.values.items) held) refl c.update_cells.ensures.masses.made)
 
 pub returns-clause-frame : goal.returns-clause-frame
 returns-clause-frame c =
@@ -62,7 +53,7 @@ returns-clause-frame c =
     let e = c.shape_of-shape.ensures in
     let vs = c.update_cells.new.values in
     frame_stays q _ vs refl (with_items_is c.deref_mut-data.result.now.values vs (search rules))
-    (moved (λ l w h v m. (k : ℕ) → IsOtherPlace w h k → slice_index vs k ≡ slice_index v k) {m = c.args.mask.now} {m' = c.args.mask.now} e.level e.columns e.rows (c.deref_mut.ensures.value ∙ ap (λ (t : PatchData). t.values.items) held) refl c.update_cells.ensures.others)
+    (moved (λ l w h v m. (k : ℕ) → IsOtherPlace w h k → slice_index vs k ≡ slice_index v k) {m = c.args.mask.now} {m' = c.args.mask.now} e.level e.columns e.rows (c.deref_mut.ensures.value ∙ ap (λ (t : PatchData). t.values.items) held) refl c.update_cells.ensures.masses.others)
 
 pub returns-clause-marks : goal.returns-clause-marks
 unfolding mark_in
@@ -82,6 +73,3 @@ update_cells-requires-clause-room c = omega (arith, c.shape_of-shape.ensures.col
 pub returns-clause-room : goal.returns-clause-room
 unfolding widest
 returns-clause-room c = c.update_cells.ensures.room
-
-pub update_cells-requires-clause-some_columns : goal.update_cells-requires-clause-some_columns
-update_cells-requires-clause-some_columns c = omega (arith, c.shape_of-shape.ensures.columns, (sides c.args.patch.now.bx c.args.patch.now.near).some_columns)

@@ -20,17 +20,17 @@ set_end-used-requires-clause-enough c =
     let j = c.args.j in
     let marks = c.args.border.marks.now in
     let all : count_below (x_marked w marks) (j + 1) ≤ count_below (x_marked w marks) c.args.shape.h = count_grows (x_marked w marks) (j + 1) c.args.shape.h (omega (arith, c.requires.row)) in
-    omega (arith, all, c.requires.used, count_more (x_marked w marks) j, c.requires.enough, ap {B = ℕ} (λ b. cond b 1 0) c.is_end_marked-marked.ensures)
+    omega (arith, all, c.requires.used, count_more (x_marked w marks) j, c.requires.sizes.enough, ap {B = ℕ} (λ b. cond b 1 0) c.is_end_marked-marked.ensures)
 
 pub set_top-requires-clause-enough : goal.set_top-requires-clause-enough
 set_top-requires-clause-enough c = λ last.
     let w = c.args.shape.w in
     let marks = c.args.border.marks.now in
     let used : c.set_end-used.result ≡ count_below (x_marked w marks) c.args.shape.h = c.set_end-used.ensures.count ∙ (λ t. c.requires.used t + cond (c.is_end_marked-marked.ensures t) 1 0) ∙ sym (count_more (x_marked w marks) c.args.j) ∙ ap (count_below (x_marked w marks)) last in
-    omega (arith, used, c.requires.enough, length-drop c.set_end-used.result c.args.border.sizes.now)
+    omega (arith, used, c.requires.sizes.enough, length-drop c.set_end-used.result c.args.border.sizes.now)
 
 pub set_top-requires-clause-small : goal.set_top-requires-clause-small
-set_top-requires-clause-small c = rest_small c.args.border.sizes.now c.set_end-used.result c.requires.border_small
+set_top-requires-clause-small c = rest_small c.args.border.sizes.now c.set_end-used.result c.requires.sizes.small
 
 pub returns-clause-used : goal.returns-clause-used
 returns-clause-used c = c.set_end-used.ensures.count ∙ (λ t. c.requires.used t + cond (c.is_end_marked-marked.ensures t) 1 0) ∙ sym (count_more (x_marked c.args.shape.w c.args.border.marks.now) c.args.j)

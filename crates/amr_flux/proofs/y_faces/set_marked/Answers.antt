@@ -1,9 +1,11 @@
-use Rattle.std.proofs.Common.{◌≡◌, ℕ, ◌+◌, ◌<◌, ◌∙◌, true, false, Bool, pos, ℤ, List, length, ap, sym, subst, rules}
+use Rattle.std.proofs.Common.{◌≡◌, ℕ, ◌+◌, ◌<◌, ◌≤◌, ◌∙◌, true, false, Bool, pos, ℤ, List, length, refl, ap, sym, subst, arith, rules}
 use Rattle.std.specs.Prelude.{slice_index, slice_index_or}
 use mir.Val.{SFits}
 use mir.Syntax.{w32}
 use Rattle.std.proofs.lemmas.Int.{to_z-of_z}
 use Rattle.amr_box.proofs.Tests.{opposite}
+use Rattle.amr_def.specs.Domain.{columns}
+use Rattle.amr_def.proofs.Sizes.{doubled_small}
 use Rattle.amr_faces.specs.Shares.{signed}
 use Rattle.amr_faces.specs.Numbers.{y_number}
 use Rattle.amr_flux.specs.Tables.{count_below, y_marked}
@@ -63,3 +65,37 @@ loop-i-preserved c =
             others = subst Q (sym b.fluxes-is) c.loop-i.invariant.others;
           }
     ]
+
+pub loop-i-init : goal.loop-i-init
+loop-i-init c = record { count = refl; made = λ i h. absurd (omega arith); others = λ i free. refl }
+
+pub is_top_marked-requires : goal.is_top_marked-requires
+is_top_marked-requires c = record { few = c.requires.few; column = c.loop-i-test.true }
+
+pub overflow_cast-i : goal.overflow_cast-i
+overflow_cast-i c =
+    let few : columns c.args.p.now c.args.shape.level ≤ 4096 = doubled_small c.args.p.now.nx c.args.shape.level c.args.p.now.limits.greatest_nx c.requires.level in
+    record { fits = omega (arith, few, c.requires.inside, c.loop-i-test.true) }
+
+pub overflow_add-shape : goal.overflow_add-shape
+overflow_add-shape c =
+    let few : columns c.args.p.now c.args.shape.level ≤ 4096 = doubled_small c.args.p.now.nx c.args.shape.level c.args.p.now.limits.greatest_nx c.requires.level in
+    record { fits = omega (arith, few, c.requires.inside, c.loop-i-test.true) }
+
+pub y_courant-requires : goal.y_courant-requires
+y_courant-requires c = record { level = c.requires.level; inside = omega (arith, c.requires.inside, c.loop-i-test.true) }
+
+pub signed_flux-requires : goal.signed_flux-requires
+signed_flux-requires c =
+    let test : ℕ → Bool = y_marked c.args.shape.w c.args.shape.h c.args.marks.now in
+    let is : test c.loop-i.i ≡ true = search rules in
+    c.requires.small.at c.loop-i.used (count_less test c.loop-i.i c.args.shape.w _ _ is c.loop-i-test.true c.requires.enough c.loop-i.invariant.count)
+
+pub bounds-fluxes-i : goal.bounds-fluxes-i
+bounds-fluxes-i c = omega arith
+
+pub returns-clause-made : goal.returns-clause-made
+returns-clause-made c = λ i h marked. c.loop-i.invariant.made i (omega (arith, h, c.loop-i.auto.i-end)) marked
+
+pub returns-clause-others : goal.returns-clause-others
+returns-clause-others c = c.loop-i.invariant.others

@@ -3,4 +3,4 @@ use Rattle.amr_layout.proofs.places.hand_puts.Given as goal
 
 -- the first patches have their puts
 abbrev pub invariant-loop-i : goal.invariant-loop-i
-invariant-loop-i l = AreHanded l.fn.lots l.fn.patches l.lots l.patches l.i
+invariant-loop-i l = AreHanded l.fn.lists l.fn.patches l.lists l.patches l.i

@@ -6,6 +6,6 @@ use Rattle.amr_layout.proofs.places.no_puts.Given as goal
 
 abbrev pub invariant-loop-i : goal.invariant-loop-i
 invariant-loop-i l = record {
-  count : length l.lots.items ≡ l.i;
-  empty : (k : ℕ) (v : Vec PutAt) → k < l.i → (slice_index_or l.lots.items k v).items ≡ [];
+  count : length l.lists.items ≡ l.i;
+  empty : (k : ℕ) (v : Vec PutAt) → k < l.i → (slice_index_or l.lists.items k v).items ≡ [];
 }

@@ -8,12 +8,12 @@ use Rattle.amr_patch.specs.Patches.{box}
 use Rattle.amr_layout.specs.declared.PatchLayout.{PatchLayout}
 use Rattle.amr_layout.specs.declared.PutAt.{PutAt}
 use Rattle.amr_layout.proofs.Masks.{masks_all}
-use Rattle.amr_layout.proofs.Planned.{image_at, image_length, lots_are}
+use Rattle.amr_layout.proofs.Planned.{image_at, image_length, lists_are}
 use Rattle.amr_layout.proofs.places.place_borders.Goals as goal
 use Rattle.amr_layout.proofs.places.place_borders.Goals.{After-drop-places}
 
 pub hand_puts-requires : goal.hand_puts-requires
-hand_puts-requires c = ap (λ (l : List (Vec PutAt)). length l) c.deref_mut.ensures.value ∙ c.in_ok-places.ensures.put.lot_count ∙ sym (ap (λ (l : List PatchLayout). length l) c.deref_mut-2.ensures.value ∙ c.in_ok-places.ensures.count)
+hand_puts-requires c = ap (λ (l : List (Vec PutAt)). length l) c.deref_mut.ensures.value ∙ c.in_ok-places.ensures.put.list_count ∙ sym (ap (λ (l : List PatchLayout). length l) c.deref_mut-2.ensures.value ∙ c.in_ok-places.ensures.count)
 
 -- the patches with their puts
 reads_now : (c : After-drop-places) → (with_items c.in_ok-places.reads c.hand_puts.new.patches).items ≡ c.hand_puts.new.patches
@@ -22,7 +22,7 @@ reads_now c = with_items_is c.in_ok-places.reads c.hand_puts.new.patches (search
 pub returns-clause-puts : goal.returns-clause-puts
 returns-clause-puts c =
     ap (map (λ (t : PatchLayout). t.puts.items)) (reads_now c) ∙ c.hand_puts.ensures.puts ∙ ap (map (λ (v : Vec PutAt). v.items)) c.deref_mut.ensures.value
-    ∙ lots_are (domain_of c.args.dom.now) c.args.patches.now c.args.each c.in_ok-places.places.count c.in_ok-places.places.lots.items c.in_ok-places.ensures.put
+    ∙ lists_are (domain_of c.args.dom.now) c.args.patches.now c.args.each c.in_ok-places.places.count c.in_ok-places.places.lists.items c.in_ok-places.ensures.put
 
 pub returns-clause-borders : goal.returns-clause-borders
 returns-clause-borders c =

@@ -33,18 +33,21 @@ reads_of-requires-clause-reader c =
     let ps = c.args.patches.now in
     let i = c.loop-i.i in
     let q = c.index-patches-i.result in
-    sym (ap (λ (b : Extent). holder_of ps b.lo) c.bx.ensures.value ∙ ap (λ (r : Patch). holder_of ps (box r).lo) c.index-patches-i.is ∙ reader_is ps i q c.requires.apart (omega arith))
+    sym (ap (λ (b : Extent). holder_of ps b.lo) c.bx.ensures.value ∙ ap (λ (r : Patch). holder_of ps (box r).lo) c.index-patches-i.is ∙ reader_is ps i q c.requires.look_up.apart (omega arith))
+
+pub reads_of-requires-clause-places : goal.reads_of-requires-clause-places
+reads_of-requires-clause-places c = record { lists = c.loop-i.invariant.put.list_count; gap = c.loop-i.invariant.gap }
 
 pub loop-i-init : goal.loop-i-init
 loop-i-init c =
     let d = domain_of c.args.dom.now in
     let ps = c.args.patches.now in
-    let lots = c.in_ok-no_puts.field-0.items in
-    let P : List Face → Type 0 = λ l. ArePut d ps l 0 lots in
+    let lists = c.in_ok-no_puts.field-0.items in
+    let P : List Face → Type 0 = λ l. ArePut d ps l 0 lists in
     record {
       count = omega arith;
       gap = tt;
-      put = subst P (sym (no_borders d ps c.args.each)) (no_puts_yet d ps lots c.in_ok-no_puts.ensures.count c.in_ok-no_puts.ensures.empty);
+      put = subst P (sym (no_borders d ps c.args.each)) (no_puts_yet d ps lists c.in_ok-no_puts.ensures.count c.in_ok-no_puts.ensures.empty);
       borders = ap (map (λ (t : PatchLayout). t.border.items)) c.in_ok-reads.ensures.items;
       read_count = ap length c.in_ok-reads.ensures.items;
       masks = λ k q t lt. absurd (omega (arith, lt));
@@ -59,16 +62,16 @@ loop-i-preserved c =
     let q = c.index-patches-i.result in
     let lt : i < length ps = omega arith in
     let layout = c.in_ok-layout.layout in
-    let lots = c.reads_of.new.places.lots.items in
+    let lists = c.reads_of.new.places.lists.items in
     let count = c.reads_of.new.places.count in
-    let P : List Face → Type 0 = λ l. ArePut d ps l count lots in
-    let more = subst P (ap (λ (b : Extent). level_borders d ps each (take i ps) ++ borders_of d ps each b) c.bx.ensures.value ∙ sym (level_more d ps each i q lt c.index-patches-i.is)) (c.in_ok-layout.ensures.put (level_borders d ps each (take i ps)) c.loop-i.invariant.put) in
+    let P : List Face → Type 0 = λ l. ArePut d ps l count lists in
+    let more = subst P (ap (λ (b : Extent). level_borders d ps each (take i ps) ++ borders_of d ps each b) c.bx.ensures.value ∙ sym (level_more d ps each i q lt c.index-patches-i.is)) (c.in_ok-layout.ensures.got.put (level_borders d ps each (take i ps)) c.loop-i.invariant.put) in
     let items = c.in_ok-push.ensures.items in
     record {
-      count = omega (arith, c.in_ok-layout.ensures.count, borders_few d ps each c.bx.result, c.loop-i.invariant.count, (counted ps i q c.bx.result lt c.index-patches-i.is c.bx.ensures.value).0);
-      gap = c.in_ok-layout.ensures.gap;
+      count = omega (arith, c.in_ok-layout.ensures.got.count, borders_few d ps each c.bx.result, c.loop-i.invariant.count, (counted ps i q c.bx.result lt c.index-patches-i.is c.bx.ensures.value).0);
+      gap = c.in_ok-layout.ensures.got.places.gap;
       put = more;
-      borders = ap (map (λ (t : PatchLayout). t.border.items)) items ∙ places_more d ps each (λ (t : PatchLayout). t.border.items) i c.loop-i.places.count count c.loop-i.reads.items layout c.loop-i.places.lots.items lots c.loop-i.invariant.put more c.in_ok-layout.ensures.border c.loop-i.invariant.borders;
+      borders = ap (map (λ (t : PatchLayout). t.border.items)) items ∙ places_more d ps each (λ (t : PatchLayout). t.border.items) i c.loop-i.places.count count c.loop-i.reads.items layout c.loop-i.places.lists.items lists c.loop-i.invariant.put more c.in_ok-layout.ensures.border c.loop-i.invariant.borders;
       read_count = omega (arith, ap length items, length-append c.loop-i.reads.items (layout ∷ []), c.loop-i.invariant.read_count);
       masks = λ k r t below.
           let P : List PatchLayout → Type 0 = λ l. HasMask d ps each (get_or ps k r) (get_or l k t) in

@@ -16,7 +16,7 @@ abbrev pub invariant-loop-i : goal.invariant-loop-i
 invariant-loop-i l = record {
   count : 2 * l.places.count ≤ total (λ q. edge_count (box q)) (take l.i l.patches);
   gap : IsGap l.patches l.places.near.gap;
-  put : ArePut (domain_of l.dom) l.patches (level_borders (domain_of l.dom) l.patches l.each (take l.i l.patches)) l.places.count l.places.lots.items;
+  put : ArePut (domain_of l.dom) l.patches (level_borders (domain_of l.dom) l.patches l.each (take l.i l.patches)) l.places.count l.places.lists.items;
   borders : map (λ t. t.border.items) l.reads.items ≡ map (border_places (domain_of l.dom) l.patches l.each) (range_with_len 0 l.i);
   read_count : length l.reads.items ≡ l.i;
   masks : (k : ℕ) (q : Patch) (t : PatchLayout) → k < l.i → HasMask (domain_of l.dom) l.patches l.each (slice_index_or l.patches k q) (slice_index_or l.reads.items k t);

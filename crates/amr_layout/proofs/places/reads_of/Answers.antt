@@ -23,6 +23,6 @@ returns-clause-mask c = from (cases_lt 0 (c.put_borders.new.places.count - c.arg
         ∙ c.in_ok-put_borders.ensures.mask
     from (inr past) =
         let none : c.put_borders.new.places.count - c.args.places.now.count ≡ 0 = omega (arith, past) in
-        let count = c.in_ok-put_borders.ensures.count in
+        let count = c.in_ok-put_borders.ensures.got.count in
         ap (masked_faces c.args.b.now) (c.mask_for-told.ensures.none none) ∙ none_masked c.args.b.now c.requires.near
         ∙ sym (no_items (borders_of (domain_of c.args.dom.now) c.args.patches.now c.args.reader.each c.args.b.now) (omega (arith, none, count)))

@@ -18,24 +18,27 @@ returns-then-are_none-clause-swept c =
       fluxes = λ f edge on. absurd (let wrong = sym on ∙ none (side_of (box c.args.patch.now) f) in cc);
     }
 
-pub returns-then-are_none-clause-totals : goal.returns-then-are_none-clause-totals
-returns-then-are_none-clause-totals c = λ word.
+pub returns-then-are_none-clause-added : goal.returns-then-are_none-clause-added
+returns-then-are_none-clause-added c =
     let none : (x : Side) → includes c.args.sides x ≡ false = c.are_none.ensures.0 c.if-are_none.true in
-    let few : length c.args.flows.now ≡ 0 = none_lie c.args.sides (box c.args.patch.now) c.args.flows.now none c.requires.sides in
-    omega (arith, none_added (λ (f : Face). unsigned_abs (flux_beside c.args.p.now c.args.l c.args.patch.now f)) word c.args.flows.now few)
+    let few : length c.args.flows.now ≡ 0 = none_lie c.args.sides (box c.args.patch.now) c.args.flows.now none c.requires.adds.lie in
+    record { count = refl; adds = λ word. omega (arith, none_added (λ (f : Face). unsigned_abs (flux_beside c.args.p.now c.args.l c.args.patch.now f)) word c.args.flows.now few) }
 
 pub add_through-requires-clause-edges : goal.add_through-requires-clause-edges
-add_through-requires-clause-edges c = edges_on c.args.p.now c.args.l c.args.patch.now c.sweep.new.patch c.sweep.ensures.of_box c.args.flows.now c.requires.flows
+add_through-requires-clause-edges c = edges_on c.args.p.now c.args.l c.args.patch.now c.sweep.new.patch c.sweep.ensures.of_box c.args.flows.now c.requires.adds.edges
 
 pub add_through-requires-clause-fits : goal.add_through-requires-clause-fits
 add_through-requires-clause-fits c = λ word.
-    let same = flows_alike c.args.patch.now c.args.sides (flux_in c.sweep.new.patch) (flux_beside c.args.p.now c.args.l c.args.patch.now) word c.args.flows.now c.requires.flows c.requires.sides c.sweep.ensures.fluxes in
-    subst (λ n. slice_index c.args.totals.now word + n < 2 ^ 63) (sym same) (c.requires.fits word)
+    let same = flows_alike c.args.patch.now c.args.sides (flux_in c.sweep.new.patch) (flux_beside c.args.p.now c.args.l c.args.patch.now) word c.args.flows.now c.requires.adds.edges c.requires.adds.lie c.sweep.ensures.fluxes in
+    subst (λ n. slice_index c.args.totals.now word + n < 2 ^ 63) (sym same) (c.requires.adds.fits word)
 
 pub returns-clause-swept : goal.returns-clause-swept
 returns-clause-swept c = record { of_box = c.sweep.ensures.of_box; values = c.sweep.ensures.values; marks = c.sweep.ensures.marks; fluxes = c.sweep.ensures.fluxes }
 
-pub returns-clause-totals : goal.returns-clause-totals
-returns-clause-totals c = λ word.
-    c.add_through.ensures.totals word
-    ∙ ap (λ n. slice_index c.args.totals.now word + n) (flows_alike c.args.patch.now c.args.sides (flux_in c.sweep.new.patch) (flux_beside c.args.p.now c.args.l c.args.patch.now) word c.args.flows.now c.requires.flows c.requires.sides c.sweep.ensures.fluxes)
+pub returns-clause-added : goal.returns-clause-added
+returns-clause-added c = record {
+  count = c.add_through.ensures.count;
+  adds = λ word.
+      c.add_through.ensures.totals word
+      ∙ ap (λ n. slice_index c.args.totals.now word + n) (flows_alike c.args.patch.now c.args.sides (flux_in c.sweep.new.patch) (flux_beside c.args.p.now c.args.l c.args.patch.now) word c.args.flows.now c.requires.adds.edges c.requires.adds.lie c.sweep.ensures.fluxes);
+}

@@ -4,7 +4,7 @@ use Rattle.amr_io.specs.Short.{FallsShort}
 use Rattle.amr_io.proofs.Sending.{sent_then}
 use Rattle.amr_plot.specs.Boxes.{joined}
 use Rattle.amr_plot.proofs.Putting.{puts_stop, sent_same}
-use Rattle.amr_plot.proofs.Texts.{next_taken, next_within}
+use Rattle.amr_plot.proofs.TextLaws.{next_taken, next_within}
 use Rattle.amr_plot.proofs.levels.put_texts.Goals as goal
 
 pub returns-in_err-put_bytes : goal.returns-in_err-put_bytes

@@ -2,7 +2,7 @@ use Rattle.std.proofs.Common.{◌∙◌, ℕ, ◌++◌, List, sym, ap, subst}
 use Rattle.amr_box.specs.Cells.{Extent}
 use Rattle.amr_def.specs.Plot.{box_text}
 use Rattle.amr_plot.specs.Boxes.{IsBoxOf}
-use Rattle.amr_plot.proofs.Texts.{next_taken}
+use Rattle.amr_plot.proofs.TextLaws.{next_taken}
 use Rattle.amr_plot.proofs.parts.parts_of.Goals as goal
 
 pub loop-b-preserved : goal.loop-b-preserved

@@ -1,4 +1,4 @@
-use Rattle.amr_plot.proofs.Texts.{next_joined}
+use Rattle.amr_plot.proofs.TextLaws.{next_joined}
 use Rattle.amr_plot.proofs.runs.join_runs.Goals as goal
 
 pub loop-run-preserved : goal.loop-run-preserved

@@ -11,7 +11,7 @@ use Rattle.amr_plot.specs.Boxes.{AreTextsOfRuns, IsBoxOf, joined}
 use Rattle.amr_plot.specs.BoxParts.{IsPartOf, part_text}
 use Rattle.amr_plot.specs.declared.parts.Part.{Part}
 use Rattle.amr_plot.proofs.LevelBoxes.{each_box}
-use Rattle.amr_plot.proofs.Texts.{all_in_runs, all_taken}
+use Rattle.amr_plot.proofs.TextLaws.{all_in_runs, all_taken}
 use Rattle.amr_plot.proofs.runs.texts_by_runs.Goals as goal
 
 pub parts_of-requires : goal.parts_of-requires

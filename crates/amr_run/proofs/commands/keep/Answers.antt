@@ -1,9 +1,10 @@
-use Rattle.std.proofs.Common.{[], sym, ◌∙◌, refl, subst, inl, List, ℕ}
+use Rattle.std.proofs.Common.{[], sym, ◌∙◌, refl, ap, subst, inl, List, ℕ, Err}
 use Rattle.amr_causes.proofs.ByteLaws.{grows_none}
 use Rattle.amr_def.specs.Plot.{plot}
 use Rattle.amr_patch.specs.Meshes.{state_of}
 use Rattle.amr_problem.specs.Judgement.{IsProblemOf}
 use Rattle.amr_run.specs.Table.{kept_row}
+use Rattle.amr_run.proofs.Causes.{caused_by, kept_causes, plot_causes, unread_causes}
 use Rattle.amr_run.proofs.KeptOutcomes.{kept_replies, only_reads_none, plot_of_kept, plot_unwritten, settles, settles_by, settles_unread, stops_by, stops_run, unread_before}
 use Rattle.amr_run.proofs.Outcomes.{refused_by, stops_within, unread}
 use Rattle.amr_run.specs.declared.status.Status.TheVariants.{Done, WriteFault}
@@ -117,3 +118,28 @@ returns-in_err-plot_in_threads-clause-settled g c =
 
 pub returns-clause-settled : goal.returns-clause-settled
 returns-clause-settled g c = c.in_ok-mesh.ensures.settled (λ is. absurd (cc))
+
+-- ---- causes
+
+pub returns-in_err-given-clause-causes : goal.returns-in_err-given-clause-causes
+returns-in_err-given-clause-causes g c =
+    let given = c.in_err-given.ensures in
+    caused_by c.from_residual.result _ _ _ c.from_residual.ensures.1 (unread_causes _ given.problem.0 _ _ given.problem.2 (λ is. given.read_fault (ap Err is)) (λ other. given.no_read_fault (λ is. other (cc))))
+
+pub returns-in_err-mesh-clause-causes : goal.returns-in_err-mesh-clause-causes
+returns-in_err-mesh-clause-causes g c =
+    let kept = c.in_err-mesh.ensures in
+    caused_by c.from_residual-in_err-mesh.result _ _ _ c.from_residual-in_err-mesh.ensures.1
+    (kept_causes _ _ _ kept.refused.1 (c.in_ok-given.ensures.no_read_fault (λ is. cc)) refl (λ is. kept.disk_fault (ap Err is)) (λ other. kept.no_disk_fault (λ is. other (cc)))
+    (λ is. kept.write_fault (ap Err is)) (λ other. kept.no_write_fault (λ is. other (cc))))
+
+pub returns-in_err-plot_in_threads-clause-causes : goal.returns-in_err-plot_in_threads-clause-causes
+returns-in_err-plot_in_threads-clause-causes g c =
+    let kept = c.in_ok-mesh.ensures in
+    caused_by c.from_residual-in_err-plot_in_threads.result WriteFault _ _ c.from_residual-in_err-plot_in_threads.ensures.1
+    (plot_causes _ _ (c.in_ok-given.ensures.no_read_fault (λ is. cc)) c.in_err-plot_in_threads.ensures.cause.failed (kept.no_write_fault (λ is. cc)) (kept.no_disk_fault (λ is. cc)))
+
+pub returns-clause-causes : goal.returns-clause-causes
+returns-clause-causes g c =
+    let kept = c.in_ok-mesh.ensures in
+    kept_causes Done _ _ (λ is. cc) (c.in_ok-given.ensures.no_read_fault (λ is. cc)) (c.in_ok-plot_in_threads.ensures.no_fault) (λ is. absurd (cc)) (λ other. kept.no_disk_fault (λ is. cc)) (λ is. absurd (cc)) (λ other. kept.no_write_fault (λ is. cc))

@@ -18,7 +18,7 @@ returns g c =
     let done = serve.outcome in
     let all = done.1.1 in
     let line = told holds c.serve-status.new.err c.tell.new.err mid now (message status) c.tell.result c.tell.ensures.whole c.tell.ensures.short c.tell.ensures.cause in
-    let before = err_before status _ old mid (λ other. (serve.no_write_fault other).1) serve.write_fault in
+    let before = err_before status _ old mid (λ other. (serve.causes.no_write_fault other).1) serve.causes.write_fault in
     record {
       served = record {
         bytes = done.0;
@@ -41,17 +41,17 @@ returns g c =
         judged_first = serve.judged_first;
         untouched = λ none. let same = serve.untouched none in (same.0, same.1, same.3);
         quiet = λ command asked keeps is. c.tell.ensures.quiet is ∙ serve.silent command asked keeps;
-        read_fault = serve.read_fault;
-        disk_fault = serve.disk_fault;
-        write_fault = λ is. ⊎_elim (λ h. inl h.0) (λ h. inr (rose_before old mid now h c.tell.ensures.cause.later)) (serve.write_fault is);
-        no_read_fault = serve.no_read_fault;
-        no_disk_fault = serve.no_disk_fault;
-        no_write_fault = λ other. (serve.no_write_fault other).0;
-        no_line_fault = λ is. ap faults (c.tell.ensures.quiet is) ∙ (serve.no_write_fault (λ other. absurd (cc))).1;
+        read_fault = serve.causes.read_fault;
+        disk_fault = serve.causes.disk_fault;
+        write_fault = λ is. ⊎_elim (λ h. inl h.0) (λ h. inr (rose_before old mid now h c.tell.ensures.cause.later)) (serve.causes.write_fault is);
+        no_read_fault = serve.causes.no_read_fault;
+        no_disk_fault = serve.causes.no_disk_fault;
+        no_write_fault = λ other. (serve.causes.no_write_fault other).0;
+        no_line_fault = λ is. ap faults (c.tell.ensures.quiet is) ∙ (serve.causes.no_write_fault (λ other. absurd (cc))).1;
         complete = λ command asked has no_read no_write no_line no_disk.
             is_complete status (command_of c.args.words.now) command done.0 (g.D.Disk.seen c.args.disk.now) done.1.0 all.0 asked (has done.0 all.1) all.4
-            (λ is. no_read (serve.read_fault is))
-            (λ is. ⊎_elim (λ h. no_write h.0) (λ h. no_line (rose_before old mid now h c.tell.ensures.cause.later)) (serve.write_fault is))
-            (λ is. no_disk (serve.disk_fault is));
+            (λ is. no_read (serve.causes.read_fault is))
+            (λ is. ⊎_elim (λ h. no_write h.0) (λ h. no_line (rose_before old mid now h c.tell.ensures.cause.later)) (serve.causes.write_fault is))
+            (λ is. no_disk (serve.causes.disk_fault is));
       };
     }

@@ -1,9 +1,10 @@
-use Rattle.std.proofs.Common.{sym, subst, ℕ, IfSome, Option, Some, None, []}
+use Rattle.std.proofs.Common.{refl, sym, subst, ℕ, IfSome, Option, Some, None, []}
 use Rattle.amr_causes.proofs.ByteLaws.{grows_none, were_left}
 use Rattle.amr_cli.specs.declared.command.Command.{Command}
 use Rattle.amr_run.specs.Outcome.{RepliesBy, RepliesTo, StopsBy, StopsTo, status_of}
 use Rattle.amr_run.specs.Reading.{TakesAtMost}
 use Rattle.amr_run.specs.Table.{OpensStore, batch_row, check_row, meaning, run_meaning, run_row, show_row, trial_row}
+use Rattle.amr_run.proofs.Causes.{causes_of}
 use Rattle.amr_run.proofs.KeptOutcomes.{only_reads_none}
 use Rattle.amr_run.proofs.Outcomes.{never_disk_fault, never_usage, takes_none}
 use Rattle.amr_run.proofs.run.answer.Goals as goal
@@ -22,9 +23,9 @@ returns-in-None-clause-outcome g c =
           done.1.2,
           grows_none g.E.Sink.holds c.args.err.now,
           subst (λ (command : Command). RepliesTo (status_of c.run.result) command done.0 seen done.1.0 []) (sym c.in-Run.is)
-              (subst (λ (keep : Option ℕ). RepliesBy (run_meaning to keep) (status_of c.run.result) done.0 seen done.1.0 []) (sym c.in-None.is) (done.1.3 seen)),
+              (subst (λ (keep : Option ℕ). RepliesBy (run_meaning to keep c.in-Run.options.deltas) (status_of c.run.result) done.0 seen done.1.0 []) (sym c.in-None.is) (done.1.3 seen)),
           subst (λ (command : Command). StopsTo g.D.Disk.seen g.D.Disk.moment g.D.Disk.leaves c.args.disk.now c.args.disk.now (status_of c.run.result) (Some command) done.0 []) (sym c.in-Run.is)
-              (subst (λ (keep : Option ℕ). StopsBy g.D.Disk.seen g.D.Disk.moment g.D.Disk.leaves c.args.disk.now c.args.disk.now (status_of c.run.result) (run_meaning to keep).keeps done.0 []) (sym c.in-None.is) (only_reads_none g.D.Disk.seen g.D.Disk.moment g.D.Disk.leaves c.args.disk.now)),
+              (subst (λ (keep : Option ℕ). StopsBy g.D.Disk.seen g.D.Disk.moment g.D.Disk.leaves c.args.disk.now c.args.disk.now (status_of c.run.result) (run_meaning to keep c.in-Run.options.deltas).keeps done.0 []) (sym c.in-None.is) (only_reads_none g.D.Disk.seen g.D.Disk.moment g.D.Disk.leaves c.args.disk.now)),
         ),
       ),
     )
@@ -44,9 +45,9 @@ returns-in-Some-clause-outcome g c =
           all.2,
           all.3,
           subst (λ (command : Command). RepliesTo (status_of c.keep.result) command done.0 seen done.1.0 all.0) (sym c.in-Run.is)
-              (subst (λ (keep : Option ℕ). RepliesBy (run_meaning to keep) (status_of c.keep.result) done.0 seen done.1.0 all.0) (sym c.in-Some.is) all.4),
+              (subst (λ (keep : Option ℕ). RepliesBy (run_meaning to keep c.in-Run.options.deltas) (status_of c.keep.result) done.0 seen done.1.0 all.0) (sym c.in-Some.is) all.4),
           subst (λ (command : Command). StopsTo g.D.Disk.seen g.D.Disk.moment g.D.Disk.leaves c.args.disk.now c.keep.new.disk (status_of c.keep.result) (Some command) done.0 all.0) (sym c.in-Run.is)
-              (subst (λ (keep : Option ℕ). StopsBy g.D.Disk.seen g.D.Disk.moment g.D.Disk.leaves c.args.disk.now c.keep.new.disk (status_of c.keep.result) (run_meaning to keep).keeps done.0 all.0) (sym c.in-Some.is) all.5),
+              (subst (λ (keep : Option ℕ). StopsBy g.D.Disk.seen g.D.Disk.moment g.D.Disk.leaves c.args.disk.now c.keep.new.disk (status_of c.keep.result) (run_meaning to keep c.in-Run.options.deltas).keeps done.0 all.0) (sym c.in-Some.is) all.5),
         ),
       ),
     )
@@ -130,12 +131,12 @@ returns-in-Batch-clause-outcome g c =
 pub returns-in-None-clause-taken : goal.returns-in-None-clause-taken
 returns-in-None-clause-taken g c =
     subst (λ (command : Command). IfSome (meaning command).reads (λ most. TakesAtMost most (g.S.Source.left c.args.src.now) (g.S.Source.left c.run.new.src))) (sym c.in-Run.is)
-    (subst (λ (keep : Option ℕ). IfSome (run_meaning c.in-Run.options.to keep).reads (λ most. TakesAtMost most (g.S.Source.left c.args.src.now) (g.S.Source.left c.run.new.src))) (sym c.in-None.is) c.run.ensures.taken)
+    (subst (λ (keep : Option ℕ). IfSome (run_meaning c.in-Run.options.to keep c.in-Run.options.deltas).reads (λ most. TakesAtMost most (g.S.Source.left c.args.src.now) (g.S.Source.left c.run.new.src))) (sym c.in-None.is) c.run.ensures.taken)
 
 pub returns-in-Some-clause-taken : goal.returns-in-Some-clause-taken
 returns-in-Some-clause-taken g c =
     subst (λ (command : Command). IfSome (meaning command).reads (λ most. TakesAtMost most (g.S.Source.left c.args.src.now) (g.S.Source.left c.keep.new.src))) (sym c.in-Run.is)
-    (subst (λ (keep : Option ℕ). IfSome (run_meaning c.in-Run.options.to keep).reads (λ most. TakesAtMost most (g.S.Source.left c.args.src.now) (g.S.Source.left c.keep.new.src))) (sym c.in-Some.is) c.keep.ensures.taken)
+    (subst (λ (keep : Option ℕ). IfSome (run_meaning c.in-Run.options.to keep c.in-Run.options.deltas).reads (λ most. TakesAtMost most (g.S.Source.left c.args.src.now) (g.S.Source.left c.keep.new.src))) (sym c.in-Some.is) c.keep.ensures.taken)
 
 pub returns-in-Check-clause-taken : goal.returns-in-Check-clause-taken
 returns-in-Check-clause-taken g c = subst (λ (command : Command). IfSome (meaning command).reads (λ most. TakesAtMost most (g.S.Source.left c.args.src.now) (g.S.Source.left c.check.new.src))) (sym c.in-Check.is) c.check.ensures.taken
@@ -152,7 +153,7 @@ returns-in-Batch-clause-taken g c = subst (λ (command : Command). IfSome (meani
 -- ---- what is pending
 
 pub returns-in-None-clause-settled : goal.returns-in-None-clause-settled
-returns-in-None-clause-settled g c opens = absurd (subst (λ (keep : Option ℕ). (run_meaning c.in-Run.options.to keep).opens) c.in-None.is (subst OpensStore c.in-Run.is opens))
+returns-in-None-clause-settled g c opens = absurd (subst (λ (keep : Option ℕ). (run_meaning c.in-Run.options.to keep c.in-Run.options.deltas).opens) c.in-None.is (subst OpensStore c.in-Run.is opens))
 
 pub returns-in-Some-clause-settled : goal.returns-in-Some-clause-settled
 returns-in-Some-clause-settled g c opens = c.keep.ensures.settled
@@ -186,16 +187,33 @@ returns-in-Trial-clause-refused g c = let said = c.trial.ensures.outcome in neve
 pub returns-in-Batch-clause-refused : goal.returns-in-Batch-clause-refused
 returns-in-Batch-clause-refused g c = let done = c.batch.ensures.outcome in never_usage batch_row c.batch.result done.0 None done.1.0 [] (done.1.3 None) c.batch.ensures.refused
 
-pub returns-in-None-clause-disk_fault : goal.returns-in-None-clause-disk_fault
-returns-in-None-clause-disk_fault g c is = let done = c.run.ensures.outcome in absurd (never_disk_fault (run_row c.in-Run.options.to) c.run.result done.0 None done.1.0 [] (λ opens. opens) (done.1.3 None) is)
+-- ---- causes
 
-pub returns-in-Check-clause-disk_fault : goal.returns-in-Check-clause-disk_fault
-returns-in-Check-clause-disk_fault g c is = let done = c.check.ensures.outcome in absurd (never_disk_fault check_row c.check.result done.0 None done.1.0 [] (λ opens. opens) (done.1.3 None) is)
+pub returns-in-None-clause-causes : goal.returns-in-None-clause-causes
+returns-in-None-clause-causes g c =
+    let done = c.run.ensures.outcome in
+    causes_of c.run.result _ _ c.run.ensures.read_fault c.run.ensures.no_read_fault (λ is. absurd (never_disk_fault (run_row c.in-Run.options.to) c.run.result done.0 None done.1.0 [] (λ opens. opens) (done.1.3 None) is)) (λ other. refl)
+    c.run.ensures.write_fault c.run.ensures.no_write_fault refl
 
-pub returns-in-Trial-clause-disk_fault : goal.returns-in-Trial-clause-disk_fault
-returns-in-Trial-clause-disk_fault g c is =
+pub returns-in-Check-clause-causes : goal.returns-in-Check-clause-causes
+returns-in-Check-clause-causes g c =
+    let done = c.check.ensures.outcome in
+    causes_of c.check.result _ _ c.check.ensures.read_fault c.check.ensures.no_read_fault (λ is. absurd (never_disk_fault check_row c.check.result done.0 None done.1.0 [] (λ opens. opens) (done.1.3 None) is)) (λ other. refl)
+    c.check.ensures.write_fault c.check.ensures.no_write_fault refl
+
+pub returns-in-Show-clause-causes : goal.returns-in-Show-clause-causes
+returns-in-Show-clause-causes g c =
+    causes_of c.show.result _ _ (λ is. absurd (c.show.ensures.no_read_fault is)) (λ other. refl) c.show.ensures.disk_fault c.show.ensures.no_disk_fault c.show.ensures.write_fault c.show.ensures.no_write_fault refl
+
+pub returns-in-Trial-clause-causes : goal.returns-in-Trial-clause-causes
+returns-in-Trial-clause-causes g c =
     let said = c.trial.ensures.outcome in
-    absurd (never_disk_fault (trial_row c.in-Trial.number c.in-Trial.size) c.trial.result [] None said.0 [] (λ opens. opens) (said.2 [] None) is)
+    causes_of c.trial.result _ _ (λ is. absurd (c.trial.ensures.no_read_fault is)) (λ other. refl)
+    (λ is. absurd (never_disk_fault (trial_row c.in-Trial.number c.in-Trial.size) c.trial.result [] None said.0 [] (λ opens. opens) (said.2 [] None) is)) (λ other. refl)
+    c.trial.ensures.write_fault c.trial.ensures.no_write_fault refl
 
-pub returns-in-Batch-clause-disk_fault : goal.returns-in-Batch-clause-disk_fault
-returns-in-Batch-clause-disk_fault g c is = let done = c.batch.ensures.outcome in absurd (never_disk_fault batch_row c.batch.result done.0 None done.1.0 [] (λ opens. opens) (done.1.3 None) is)
+pub returns-in-Batch-clause-causes : goal.returns-in-Batch-clause-causes
+returns-in-Batch-clause-causes g c =
+    let done = c.batch.ensures.outcome in
+    causes_of c.batch.result _ _ c.batch.ensures.read_fault c.batch.ensures.no_read_fault (λ is. absurd (never_disk_fault batch_row c.batch.result done.0 None done.1.0 [] (λ opens. opens) (done.1.3 None) is)) (λ other. refl)
+    c.batch.ensures.write_fault c.batch.ensures.no_write_fault refl

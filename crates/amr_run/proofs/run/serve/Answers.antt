@@ -7,6 +7,7 @@ use Rattle.amr_run.specs.Outcome.{Outcome, StopsTo}
 use Rattle.amr_run.specs.Reading.{TakesAtMost}
 use Rattle.amr_run.specs.Table.{OpensStore, meaning}
 use Rattle.amr_run.specs.declared.status.Status.TheVariants.{Done, NoMemory, Usage}
+use Rattle.amr_run.proofs.Causes.{no_causes}
 use Rattle.amr_run.proofs.KeptOutcomes.{stops_none}
 use Rattle.amr_run.proofs.Outcomes.{of_command, of_no_memory, takes_none}
 use Rattle.amr_run.proofs.run.serve.Goals as goal
@@ -129,5 +130,14 @@ returns-in-Err-clause-taken g c command asked =
 
 -- ---- causes
 
-pub returns-in-Err-clause-write_fault : goal.returns-in-Err-clause-write_fault
-returns-in-Err-clause-write_fault g c is = c.in-Err.ensures.write_fault (ap Err is)
+pub returns-in-Err-Usage-clause-causes : goal.returns-in-Err-Usage-clause-causes
+returns-in-Err-Usage-clause-causes g c = no_causes Usage _ (λ is. cc) (λ is. cc) (λ is. cc)
+
+pub returns-in-Err-NoMemory-clause-causes : goal.returns-in-Err-NoMemory-clause-causes
+returns-in-Err-NoMemory-clause-causes g c = no_causes NoMemory _ (λ is. cc) (λ is. cc) (λ is. cc)
+
+pub returns-in-Ok-answer-clause-causes : goal.returns-in-Ok-answer-clause-causes
+returns-in-Ok-answer-clause-causes g c = c.in-Ok-answer.ensures.causes
+
+pub returns-in-Err-clause-causes : goal.returns-in-Err-clause-causes
+returns-in-Err-clause-causes g c = c.in-Err.ensures.causes

@@ -17,10 +17,10 @@ returns-in-Ok-true-clause-laid g c =
     let head = c.args.head.now in
     let gate = c.gate_at-gate.result in
     let end = c.end_of-end.result in
-    let lays : LaysAt c.args.version head problem size c.gate_at-gate.result c.end_of-end.result = record { gate_is = c.gate_at-gate.ensures.place; end_is = c.end_of-end.ensures.place; head_is = c.requires.head; text_fits = c.requires.text; size_fits = c.requires.size } in
+    let lays : LaysAt c.args.version head problem size c.gate_at-gate.result c.end_of-end.result = record { known = c.requires.version; gate_is = c.gate_at-gate.ensures.place; end_is = c.end_of-end.ensures.place; head_is = c.requires.head; text_fits = c.requires.text; size_fits = c.requires.size } in
     on_ok_weaker c.write_three_synced.result (λ seen t is.
     let from = mapped_some (λ s. written_at end (0 ∷ []) (written_at gate (0 ∷ []) (written_at 1 head s))) (g.D.Disk.seen c.has_renewal_gate.new.disk) t (sym seen ∙ is) in
-    subst (λ (i : List ℕ). IsLaid c.args.version problem size i) from.2 (laid_thrice c.args.version from.0 head problem size gate end lays)) c.write_three_synced.ensures.seen
+    subst (λ (i : List ℕ). IsLaid c.args.version 0 problem size i) from.2 (laid_thrice c.args.version from.0 head problem size gate end lays)) c.write_three_synced.ensures.seen
 
 pub returns-in-Ok-false-clause-laid : goal.returns-in-Ok-false-clause-laid
 returns-in-Ok-false-clause-laid g c =
@@ -29,11 +29,11 @@ returns-in-Ok-false-clause-laid g c =
     let head = c.args.head.now in
     let gate = c.gate_at-gate.result in
     let end = c.end_of-end.result in
-    let lays : LaysAt c.args.version head problem size c.gate_at-gate.result c.end_of-end.result = record { gate_is = c.gate_at-gate.ensures.place; end_is = c.end_of-end.ensures.place; head_is = c.requires.head; text_fits = c.requires.text; size_fits = c.requires.size } in
+    let lays : LaysAt c.args.version head problem size c.gate_at-gate.result c.end_of-end.result = record { known = c.requires.version; gate_is = c.gate_at-gate.ensures.place; end_is = c.end_of-end.ensures.place; head_is = c.requires.head; text_fits = c.requires.text; size_fits = c.requires.size } in
     on_ok_weaker c.write_two_synced.result (λ seen t is.
     let from = mapped_some (λ s. written_at gate (0 ∷ []) (written_at 1 head s)) (g.D.Disk.seen c.has_renewal_gate.new.disk) t (sym seen ∙ is) in
     let short = sym (c.in-Ok-false.ensures.told from.0 (sym c.has_renewal_gate.ensures.reads.same ∙ from.1)) ∙ c.in-Ok-false.field-0-test in
-    subst (λ (i : List ℕ). IsLaid c.args.version problem size i) from.2 (laid_twice c.args.version from.0 head problem size gate end lays short)) c.write_two_synced.ensures.seen
+    subst (λ (i : List ℕ). IsLaid c.args.version 0 problem size i) from.2 (laid_twice c.args.version from.0 head problem size gate end lays short)) c.write_two_synced.ensures.seen
 
 pub returns-in-Ok-true-clause-stops : goal.returns-in-Ok-true-clause-stops
 returns-in-Ok-true-clause-stops g c s is =
@@ -73,7 +73,7 @@ returns-in-Ok-true-clause-seen g c =
     let head = c.args.head.now in
     let gate = c.gate_at-gate.result in
     let end = c.end_of-end.result in
-    let lays : LaysAt c.args.version head problem size c.gate_at-gate.result c.end_of-end.result = record { gate_is = c.gate_at-gate.ensures.place; end_is = c.end_of-end.ensures.place; head_is = c.requires.head; text_fits = c.requires.text; size_fits = c.requires.size } in
+    let lays : LaysAt c.args.version head problem size c.gate_at-gate.result c.end_of-end.result = record { known = c.requires.version; gate_is = c.gate_at-gate.ensures.place; end_is = c.end_of-end.ensures.place; head_is = c.requires.head; text_fits = c.requires.text; size_fits = c.requires.size } in
     on_ok_weaker c.write_three_synced.result (λ seen.
     written_as (λ s. written_at end (0 ∷ []) (written_at gate (0 ∷ []) (written_at 1 head s))) (laid_image v problem size) (g.D.Disk.seen c.args.disk.now) (g.D.Disk.seen c.has_renewal_gate.new.disk) (g.D.Disk.seen c.write_three_synced.new.disk) c.has_renewal_gate.ensures.reads.same seen
     (λ s is. laid_past v s head problem size gate end lays (sym (c.in-Ok-true.ensures.told s is) ∙ c.in-Ok-true.field-0-test))) c.write_three_synced.ensures.seen
@@ -86,7 +86,7 @@ returns-in-Ok-false-clause-seen g c =
     let head = c.args.head.now in
     let gate = c.gate_at-gate.result in
     let end = c.end_of-end.result in
-    let lays : LaysAt c.args.version head problem size c.gate_at-gate.result c.end_of-end.result = record { gate_is = c.gate_at-gate.ensures.place; end_is = c.end_of-end.ensures.place; head_is = c.requires.head; text_fits = c.requires.text; size_fits = c.requires.size } in
+    let lays : LaysAt c.args.version head problem size c.gate_at-gate.result c.end_of-end.result = record { known = c.requires.version; gate_is = c.gate_at-gate.ensures.place; end_is = c.end_of-end.ensures.place; head_is = c.requires.head; text_fits = c.requires.text; size_fits = c.requires.size } in
     on_ok_weaker c.write_two_synced.result (λ seen.
     written_as (λ s. written_at gate (0 ∷ []) (written_at 1 head s)) (laid_image v problem size) (g.D.Disk.seen c.args.disk.now) (g.D.Disk.seen c.has_renewal_gate.new.disk) (g.D.Disk.seen c.write_two_synced.new.disk) c.has_renewal_gate.ensures.reads.same seen
     (λ s is. laid_short v s head problem size gate end lays (sym (c.in-Ok-false.ensures.told s is) ∙ c.in-Ok-false.field-0-test))) c.write_two_synced.ensures.seen

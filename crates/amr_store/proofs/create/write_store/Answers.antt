@@ -1,4 +1,4 @@
-use Rattle.std.proofs.Common.{◌≡◌, ◌⊎◌, inl, ◌∙◌, ◌∷◌, [], sym, subst, ℕ, List}
+use Rattle.std.proofs.Common.{◌≡◌, ◌⊎◌, inl, ◌∙◌, ◌∷◌, [], refl, sym, subst, ℕ, List}
 use Rattle.amr_disk.specs.Image.{Torn, written_at}
 use Rattle.amr_store.proofs.Calls.{mapped_some}
 use Rattle.amr_store.proofs.Creation.{shut_empty, made_stop, made_after}
@@ -27,14 +27,14 @@ returns-in-Ok-lay-clause-stops g c s is =
     (c.lay.ensures.stops told_1.0 told_1.1) (λ i e. e) (λ i keeps. shut_empty i (keeps shut_1).shut) in
     joins m l disk_0 disk_2 c.write_synced.new.disk (λ i. stored i ≡ Empty) (Torn 0 1 told_2.0) (λ i. (stored i ≡ Empty) ⊎ (stored i ≡ Held (new_state v problem size))) second
     (c.write_synced.ensures.stops told_2.0 told_2.1) (λ i e. inl e)
-    (λ i torn. made_stop v problem size told_2.0 i c.requires.version c.requires.text c.requires.size (c.in-Ok-lay.ensures.laid told_2.0 told_2.1) torn)
+    (λ i torn. made_stop v 0 problem size told_2.0 i (inl (c.requires.version, refl)) c.requires.text c.requires.size (c.in-Ok-lay.ensures.laid told_2.0 told_2.1) torn)
 
 pub returns-in-Ok-lay-clause-made : goal.returns-in-Ok-lay-clause-made
 returns-in-Ok-lay-clause-made g c =
     on_ok_weaker c.write_synced.result (λ seen t is.
     let from = mapped_some (written_at 0 (165 ∷ [])) (g.D.Disk.seen c.lay.new.disk) t (sym seen ∙ is) in
-    subst (λ (i : List ℕ). IsMade c.args.version c.args.problem.now c.args.slot_size i) from.2
-    (made_after c.args.version c.args.problem.now c.args.slot_size from.0 (c.in-Ok-lay.ensures.laid from.0 from.1))) c.write_synced.ensures.seen
+    subst (λ (i : List ℕ). IsMade c.args.version 0 c.args.problem.now c.args.slot_size i) from.2
+    (made_after c.args.version 0 c.args.problem.now c.args.slot_size from.0 (c.in-Ok-lay.ensures.laid from.0 from.1))) c.write_synced.ensures.seen
 
 pub returns-in-Err-lay-clause-stops : goal.returns-in-Err-lay-clause-stops
 returns-in-Err-lay-clause-stops g c s is =

@@ -4,7 +4,8 @@ use Rattle.amr_disk.specs.Image.{Torn, written_at}
 use Rattle.amr_store.proofs.Calls.{mapped_some}
 use Rattle.amr_store.proofs.Joins.{mapped_on, some_of, one, two, three}
 use Rattle.std.proofs.lemmas.Result.{on_ok_weaker}
-use Rattle.amr_store.proofs.Renewals.{laid_same, laid_shut, renewal_written, renewed_stop, renewed_after}
+use Rattle.amr_store.proofs.Renewals.{laid_same, laid_shut, renewal_written}
+use Rattle.amr_store.proofs.RenewedStores.{renewed_stop, renewed_after}
 use Rattle.amr_store.proofs.Runs.{weaker}
 use Rattle.amr_store.specs.Phases.{TornTwice}
 use Rattle.amr_store.proofs.Seen.{written_thrice}

@@ -11,5 +11,5 @@ some_there (p ∷ ps) h = omega arith
 
 pub coarse_part-requires-clause-inside : goal.coarse_part-requires-clause-inside
 coarse_part-requires-clause-inside c =
-    each_inside (domain c.args.p.now 0) c.args.patches.now c.fill.new.patches (c.are_of_level.ensures.inside c.if-not-are_of_level.false) c.fill.ensures.boxes 0 c.index-patches-0.result
-    (some_there c.fill.new.patches (sym c.is_empty.ensures ∙ c.if-is_empty.false))
+    each_inside (domain c.args.p.now 0) c.args.patches.now c.fill_frames.new.patches (c.are_of_level.ensures.inside c.if-not-are_of_level.false) c.fill_frames.ensures 0 c.index-patches-0.result
+    (some_there c.fill_frames.new.patches (sym c.is_empty.ensures ∙ c.if-is_empty.false))

@@ -1,4 +1,4 @@
-use Rattle.std.proofs.Common.{◌≡◌, ◌∙◌, ℕ, List, [], ◌∷◌, refl, sym, ap, subst, arith}
+use Rattle.std.proofs.Common.{◌≡◌, ◌∙◌, ℕ, List, [], ◌∷◌, sym, ap, subst, arith}
 use Rattle.std.specs.declared.option.Option.TheVariants.{None}
 use Rattle.std.specs.Option.{option_copied}
 use Rattle.amr_def.specs.declared.problem.Problem.{Problem}
@@ -33,9 +33,9 @@ ground g c ps =
 none : (g : given.Over) (c : After-first_step-given g) → no_masses ≡ coarser_masses c.first_step-given.result
 none g c = λ i. old_masses (option_copied (sym c.first_step-given.ensures.old i))
 
-pub open_patches-requires-clause-level : goal.open_patches-requires-clause-level
-open_patches-requires-clause-level g c κs within =
-    let at = (goal.at.open_patches-requires-clause-level g c).After-first_step-given in
+pub open_patches-requires-clause-step : goal.open_patches-requires-clause-step
+open_patches-requires-clause-step g c κs within =
+    let at = (goal.at.open_patches-requires-clause-step g c).After-first_step-given in
     let p = c.args.p.now in
     let k = level_of c.args.level in
     let ps = c.deref_mut.result.now in
@@ -46,15 +46,15 @@ open_patches-requires-clause-level g c κs within =
       inside = patches_inside p 0 k ps (part_levels p 0 (k ∷ []) no_masses (whole_part p k [] c.requires)) m;
       fits = subst (λ (n : Masses). LevelStepFits p 0 n no_masses) m (part_fits p 0 k [] no_masses (whole_part p k [] c.requires));
     } in
-    subst (λ (n : Masses). MayStepLevel (around_of c.first_step-given.result ps) n) (none g at) (subst (λ (s : Around). MayStepLevel s no_masses) (ground g at ps) may)
-
-pub open_patches-requires-clause-basis : goal.open_patches-requires-clause-basis
-open_patches-requires-clause-basis g c κs within =
     let e = c.first_step-given.ensures in
     record {
-      problem = (λ i. (e.basis i).problem.value) ∙ c.of.ensures ∙ sym e.problem;
-      patches = (λ i. (e.basis i).patches.value.items) ∙ ap (λ v. v.items) c.of-2.ensures ∙ sym c.deref_mut.ensures.value;
-      coarser = (λ i. coarser_of (e.basis i)) ∙ none g (goal.at.open_patches-requires-clause-basis g c).After-first_step-given;
+      level = subst (λ (n : Masses). MayStepLevel (around_of c.first_step-given.result ps) n) (none g at) (subst (λ (s : Around). MayStepLevel s no_masses) (ground g at ps) may);
+      basis = record {
+        problem = (λ i. (e.basis i).problem.value) ∙ c.of.ensures ∙ sym e.problem;
+        patches = (λ i. (e.basis i).patches.value.items) ∙ ap (λ v. v.items) c.of-2.ensures ∙ sym c.deref_mut.ensures.value;
+        coarser = (λ i. coarser_of (e.basis i)) ∙ none g at;
+      };
+      shared = subst (IsSharedOf c.first_step-given.result.old) (sym e.shared) tt;
     }
 
 pub open_patches-requires-clause-order : goal.open_patches-requires-clause-order
@@ -67,9 +67,6 @@ open_patches-requires-clause-cells g c κs within =
     let ps = c.deref_mut.result.now in
     subst (λ (s : Around). HasRegisterCells s) (ground g (goal.at.open_patches-requires-clause-cells g c).After-first_step-given ps)
     (cells_serve p 0 k None None ps None (no_coarser p k [] c.requires) (part_levels p 0 (k ∷ []) no_masses (whole_part p k [] c.requires)) (ap masses_in c.deref_mut.ensures.value ∙ sym c.take_patches-patches.ensures.masses))
-
-pub open_patches-requires-clause-shared : goal.open_patches-requires-clause-shared
-open_patches-requires-clause-shared g c κs within = subst (IsSharedOf c.first_step-given.result.old) (sym c.first_step-given.ensures.shared) tt
 
 pub returns : goal.returns
 returns g c =

@@ -4,7 +4,7 @@ use Rattle.amr_board.specs.Views.{HoldsNone}
 use Rattle.amr_board.proofs.Sums.{found_at, got, in_range_at}
 use Rattle.amr_phase.specs.declared.plan.Task.{Task}
 use Rattle.amr_phase.specs.Plans.{PlanOf}
-use Rattle.std.proofs.Common.{◌∙◌, List, length}
+use Rattle.std.proofs.Common.{◌∙◌, length}
 use Rattle.std.proofs.lemmas.List.{length-map}
 use Rattle.amr_lots.specs.declared.lot.Work.{Work}
 use Rattle.amr_lots.specs.Ready.{MayBegin}

@@ -14,7 +14,7 @@ invariant_of-self-2 c =
     let gs = c.self.inside.grids.items in
     let old = c.self.inside.parents in
     let new = c.set_in.new.self in
-    let parents = corners_are c.coarsen2.result (half b.lo.x) (half b.lo.y) (half b.hi.x) (half b.hi.y) c.coarsen2.ensures.corners in
+    let parents = corners_are c.coarsen2-parents.result (half b.lo.x) (half b.lo.y) (half b.hi.x) (half b.hi.y) c.coarsen2-parents.ensures.corners in
     let more = ap (λ (hs : List Grid). boxes_of hs) c.in_ok-push.ensures.items ∙ map-append (λ (g : Grid). g.bx) gs (c.args.grid ∷ []) in
     record {
       at = λ q.

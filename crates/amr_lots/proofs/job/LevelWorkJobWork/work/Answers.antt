@@ -1,5 +1,5 @@
 use Rattle.std.proofs.Common.{◌∙◌}
-use Rattle.amr_lots.proofs.Duties.{no_adds, no_puts, served, serves, worked_none}
+use Rattle.amr_lots.proofs.DutyLaws.{no_adds, no_puts, served, serves, worked_none}
 use Rattle.amr_lots.proofs.job.LevelWorkJobWork.work.Goals as goal
 
 pub step-requires-clause-step : goal.step-requires-clause-step

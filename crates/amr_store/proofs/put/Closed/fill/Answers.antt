@@ -1,6 +1,7 @@
 use Rattle.std.proofs.Common.{◌≡◌, ◌∙◌, ◌+◌, sym, length, arith}
 use Rattle.amr_disk.specs.Image.{written_at}
-use Rattle.amr_store.proofs.Calls.{FillsSlot, fill_holds, fill_seen, fill_same, fill_stands, mapped_some}
+use Rattle.amr_store.proofs.Calls.{mapped_some}
+use Rattle.amr_store.proofs.Steps.{FillsSlot, fill_holds, fill_seen, fill_same, fill_stands}
 use Rattle.amr_store.proofs.Runs.{weaker}
 use Rattle.amr_store.specs.Phases.{TornTwice}
 use Rattle.amr_store.specs.Stored.{stored}

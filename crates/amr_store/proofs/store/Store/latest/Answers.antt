@@ -1,24 +1,26 @@
-use Rattle.std.proofs.Common.{◌∙◌, ◌+◌, ◌-◌, sym, arith}
-use Rattle.amr_store.proofs.Entries.{latest_none, latest_some}
-use Rattle.amr_store.proofs.Readings.{reads_settled}
+use Rattle.std.proofs.Common.{◌∙◌, ap, sym, Option}
+use Rattle.std.specs.Prelude.{is_some}
+use Rattle.amr_store.specs.declared.slot.Slot.{Slot}
+use Rattle.amr_store.proofs.Calls.{last_same}
+use Rattle.amr_store.proofs.Entries.{latest_none, latest_some, latest_is_some}
 use Rattle.amr_store.proofs.store.Store.latest.Goals as goal
 
 pub returns-in-None-clause-latest : goal.returns-in-None-clause-latest
 returns-in-None-clause-latest g c shut s is = latest_none c.args.self.now s c.latest_slot-which.result (c.requires.ready.stands shut s is) c.latest_slot-which.ensures.slot (sym c.slot.ensures ∙ c.in-None.is)
 
 pub returns-in-Ok-clause-latest : goal.returns-in-Ok-clause-latest
-returns-in-Ok-clause-latest g c shut s is =
-    latest_some c.args.self.now s c.latest_slot-which.result c.in-Some.slot (c.gate.result - c.args.self.now.base + 17) c.min.result c.in-Ok.bytes.items (c.requires.ready.stands shut s is) c.latest_slot-which.ensures.slot
-    (sym c.slot.ensures ∙ c.in-Some.is) (omega (arith, c.gate.ensures.place)) (omega (arith, c.min.ensures)) (c.in-Ok.ensures.told s is)
+returns-in-Ok-clause-latest g c shut s is = latest_some c.args.self.now s c.latest_slot-which.result c.in-Ok.bytes.items (c.requires.ready.stands shut s is) c.latest_slot-which.ensures.slot (c.in-Ok.ensures.payload s is)
 
-pub returns-in-Ok-clause-ready : goal.returns-in-Ok-clause-ready
-returns-in-Ok-clause-ready g c = record {
-  settled = λ shut. reads_settled g.D.Disk.seen g.D.Disk.moment g.D.Disk.leaves c.args.disk.now c.read_bytes.new.disk c.read_bytes.ensures.reads (c.requires.ready.settled shut);
-  stands = λ shut s is. c.requires.ready.stands shut s (sym c.read_bytes.ensures.reads.same ∙ is);
-}
+pub returns-in-None-clause-none : goal.returns-in-None-clause-none
+returns-in-None-clause-none g c =
+    ap (λ (o : Option Slot). is_some o) (sym c.in-None.is ∙ c.slot.ensures) ∙ latest_is_some c.args.self.now c.latest_slot-which.result c.latest_slot-which.ensures.slot
 
-pub returns-in-Err-clause-ready : goal.returns-in-Err-clause-ready
-returns-in-Err-clause-ready g c = record {
-  settled = λ shut. reads_settled g.D.Disk.seen g.D.Disk.moment g.D.Disk.leaves c.args.disk.now c.read_bytes.new.disk c.read_bytes.ensures.reads (c.requires.ready.settled shut);
-  stands = λ shut s is. c.requires.ready.stands shut s (sym c.read_bytes.ensures.reads.same ∙ is);
-}
+pub returns-in-Ok-clause-none : goal.returns-in-Ok-clause-none
+returns-in-Ok-clause-none g c =
+    ap (λ (o : Option Slot). is_some o) (sym c.in-Some.is ∙ c.slot.ensures) ∙ latest_is_some c.args.self.now c.latest_slot-which.result c.latest_slot-which.ensures.slot
+
+pub returns-in-Ok-clause-last : goal.returns-in-Ok-clause-last
+returns-in-Ok-clause-last g c = last_same c.args.self.now c.payload_at.new.self c.payload_at.ensures.same c.payload_at.ensures.slots
+
+pub returns-in-Err-clause-last : goal.returns-in-Err-clause-last
+returns-in-Err-clause-last g c = last_same c.args.self.now c.payload_at.new.self c.payload_at.ensures.same c.payload_at.ensures.slots

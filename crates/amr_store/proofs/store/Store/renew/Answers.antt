@@ -1,14 +1,16 @@
 use Rattle.std.specs.Prelude.{option_map}
-use Rattle.std.proofs.Common.{◌≡◌, ◌∙◌, ap, sym, subst, refl, ℕ, List, Option}
-use Rattle.amr_store.proofs.Renewals.{end_as, old_of, renewed_stands}
+use Rattle.std.proofs.Common.{◌≡◌, ◌∙◌, ap, sym, subst, refl, inr, ℕ, List, Option}
+use Rattle.amr_store.proofs.Renewals.{end_as, old_of}
+use Rattle.amr_store.proofs.RenewedStores.{renewed_stands}
+use Rattle.amr_store.proofs.Creation.{numbered_old}
 use Rattle.amr_store.proofs.Joins.{nothing_renewed}
 use Rattle.amr_disk.specs.Moments.{StopsIn}
 use Rattle.amr_store.specs.Renewed.{IsOld, SameOrRenewed, renewed_state, renewed_image}
 use Rattle.amr_store.specs.Stands.{problem_in}
 use Rattle.amr_store.specs.Stored.{Held}
 use Rattle.amr_store.specs.declared.slot.Slot.{Slot}
-use Rattle.amr_store.specs.Table.{last_of}
-use Rattle.amr_store.proofs.Tables.{last_alone}
+use Rattle.amr_store.specs.Table.{last_of, AreSound}
+use Rattle.amr_store.proofs.NewTables.{one_open, last_alone}
 use Rattle.amr_store.proofs.store.Store.renew.Goals as goal
 
 pub returns-in_err-all-clause-stops : goal.returns-in_err-all-clause-stops
@@ -51,5 +53,11 @@ returns-in-Ok-clause-seen g c =
     (end_as c.args.self c.len.result c.end_of-end.result (c.len.ensures ∙ c.args.self.problem.ok.0) c.end_of-end.ensures.place)
     (subst (λ (p : List ℕ). seen c.write_renewal.new.disk ≡ option_map (renewed_image c.end_of-end.result p c.args.slot_size c.args.sequence c.args.bytes.now) (seen c.args.disk.now)) c.deref-2.ensures.value c.in-Ok.ensures.seen)
 
+pub invariant_of-result-clause-sound : goal.invariant_of-result-clause-sound
+invariant_of-result-clause-sound g c = subst (λ (l : List (Option Slot)). AreSound 0 l) (sym c.in_ok-slots.ensures.slots) (one_open _).sound
+
 pub returns-in-Ok-clause-last : goal.returns-in-Ok-clause-last
 returns-in-Ok-clause-last g c = ap (λ (l : List (Option Slot)). last_of 0 l) c.in_ok-slots.ensures.slots ∙ last_alone _
+
+pub invariant_of-result-clause-numbered : goal.invariant_of-result-clause-numbered
+invariant_of-result-clause-numbered g c = numbered_old 2 (inr refl)

@@ -1,0 +1,161 @@
+//! The masses of a box by a form: all of them, or those of the rows that changed since an older state. A row is compared span by
+//! span.
+
+ghost use Rattle.std.specs.Prelude.{◌≡◌, ℕ, ◌+◌, ◌<◌, ◌≤◌, ◌++◌, ◌↔◌, pos, ◌+ℤ◌, ◌≤ℤ◌, length, slice_index, IsTrue, OnOk};
+ghost use Rattle.std.specs.List.{flat_map};
+ghost use Rattle.amr_box.specs.Cells.{IsNear, width};
+ghost use Rattle.amr_patch.specs.BoxRows.{HasCellsOf, mass_in};
+ghost use Rattle.amr_patch.specs.Levels.{level_of};
+ghost use Rattle.amr_payload.specs.Payload.{cell_rows, changed_bytes, masses_bytes};
+ghost use Rattle.amr_codec.specs.Forms.{HasMassAt, cells_of_row, form_of, masses_before};
+
+use crate::basis::Form;
+use crate::numbers::{MassWidth, put_flag};
+use crate::rows::{put_row, put_rows};
+use amr_box::Bx;
+use amr_causes::NoMemory;
+use amr_patch::{Level, cell_in, masses_from};
+
+/// Whether numbers are equal, one by one.
+fn are_equal(a: &[u32], b: &[u32]) -> bool
+    requires { length a.now ≡ length b.now }
+    ensures { IsTrue result ↔ ((k : ℕ) → k < length a.now → slice_index a.now k ≡ slice_index b.now k) }
+{
+    let mut equal = true;
+    for k in 0..a.len() {
+        equal &= a[k] == b[k];
+    }
+    equal
+}
+
+/// How many cells of a row of the box have these masses, from column `first` on and as far as they stand in one patch. 0 where
+/// one of these has another mass, or the first is no cell of the level.
+fn span_with(level: &Level, b: &Bx, row: u32, first: u32, masses: &[u32]) -> usize
+    requires near { IsNear b.now }
+    requires row { (b.now.lo.y +ℤ pos row) ≤ℤ b.now.hi.y }
+    requires some { 0 < length masses.now }
+    requires columns { first + length masses.now ≤ width b.now }
+    ensures within { result ≤ length masses.now }
+    ensures same { (k : ℕ) → k < result → HasMassAt (level_of level.now).masses b.now row (first + k) (slice_index masses.now k) }
+    ensures none { result ≡ 0 → ((k : ℕ) → k < length masses.now → HasMassAt (level_of level.now).masses b.now row (first + k) (slice_index masses.now k)) → ⊥ }
+{
+    let c = cell_in(b, row, first);
+    if level.get(c).is_none() {
+        return 0;
+    }
+    let span = level.span(c);
+    let count = span.len().min(masses.len());
+    if are_equal(&span[..count], &masses[..count]) {
+        count
+    } else {
+        0
+    }
+}
+
+/// Whether the cells of a row of the box from column `first` on are cells of the level and have these masses.
+fn level_has(level: &Level, b: &Bx, row: u32, first: u32, masses: &[u32]) -> bool
+    requires near { IsNear b.now }
+    requires row { (b.now.lo.y +ℤ pos row) ≤ℤ b.now.hi.y }
+    requires columns { first + length masses.now ≤ width b.now }
+    ensures { IsTrue result ↔ ((k : ℕ) → k < length masses.now → HasMassAt (level_of level.now).masses b.now row (first + k) (slice_index masses.now k)) }
+{
+    let mut done = 0;
+    while done < masses.len() {
+        let count = span_with(level, b, row, first + done as u32, &masses[done..]);
+        if count == 0 {
+            return false;
+        }
+        done += count;
+    }
+    true
+}
+
+/// Whether an older state has the cells of a row of the box from column `first` on, at this level, and there with these masses.
+/// None is a level that it has not.
+pub fn has_masses(old: Option<&Level>, b: &Bx, row: u32, first: u32, masses: &[u32]) -> bool
+    requires near { IsNear b.now }
+    requires row { (b.now.lo.y +ℤ pos row) ≤ℤ b.now.hi.y }
+    requires columns { first + length masses.now ≤ width b.now }
+    ensures { IsTrue result ↔ ((k : ℕ) → k < length masses.now → HasMassAt (masses_before old.entry) b.now row (first + k) (slice_index masses.now k)) }
+{
+    match old {
+        None => masses.is_empty(),
+        Some(level) => level_has(level, b, row, first, masses),
+    }
+}
+
+/// Whether the cells of a row of the box have the masses of `level` in the older state.
+fn keeps_row(old: Option<&Level>, level: &Level, b: &Bx, row: u32) -> bool
+    requires near { IsNear b.now }
+    requires row { (b.now.lo.y +ℤ pos row) ≤ℤ b.now.hi.y }
+    requires cells { HasCellsOf level.now b.now }
+    ensures { IsTrue result ↔ ((i : ℕ) → i < width b.now → HasMassAt (masses_before old.entry) b.now row i (mass_in level.now b.now row i)) }
+{
+    let columns = b.width();
+    let mut first = 0;
+    while first < columns {
+        let masses = masses_from(level, b, row, first);
+        if !has_masses(old, b, row, first, masses) {
+            return false;
+        }
+        first += masses.len() as u32;
+    }
+    true
+}
+
+/// A row of the box: its flag, and its masses where one of them changed.
+#[tactic(auto, unfolding(amr_payload::specs::Payload::changed_bytes))]
+fn put_changed_row(
+    old: Option<&Level>,
+    level: &Level,
+    b: &Bx,
+    row: u32,
+    out: &mut Vec<u8>,
+) -> Result<(), NoMemory>
+    requires near { IsNear b.now }
+    requires row { (b.now.lo.y +ℤ pos row) ≤ℤ b.now.hi.y }
+    requires cells { HasCellsOf level.now b.now }
+    ensures { OnOk result (out.new.items
+        ≡ out.old.items ++ changed_bytes (masses_before old.entry) (level_of level.now).masses (cells_of_row b.now row)) }
+{
+    if keeps_row(old, level, b, row) {
+        return put_flag(0, out);
+    }
+    put_flag(1, out)?;
+    put_row(MassWidth::Four, level, b, row, out)
+}
+
+/// The rows of the box that changed, from the low row on.
+fn put_changed_rows(
+    old: Option<&Level>,
+    level: &Level,
+    b: &Bx,
+    out: &mut Vec<u8>,
+) -> Result<(), NoMemory>
+    requires near { IsNear b.now }
+    requires cells { HasCellsOf level.now b.now }
+    ensures { OnOk result (out.new.items
+        ≡ out.old.items ++ flat_map (changed_bytes (masses_before old.entry) (level_of level.now).masses) (cell_rows b.now)) }
+{
+    for row in 0..b.height() {
+        put_changed_row(old, level, b, row, out)?;
+    }
+    Ok(())
+}
+
+/// The masses of a box of the level by a form.
+pub(crate) fn put_masses_of(
+    form: &Form<'_>,
+    level: &Level,
+    b: &Bx,
+    out: &mut Vec<u8>,
+) -> Result<(), NoMemory>
+    requires near { IsNear b.now }
+    requires cells { HasCellsOf level.now b.now }
+    ensures { OnOk result (out.new.items ≡ out.old.items ++ masses_bytes (form_of form.now) (level_of level.now).masses b.now) }
+{
+    match form {
+        Form::Whole(width) => put_rows(*width, level, b, out),
+        Form::Changed(old) => put_changed_rows(*old, level, b, out),
+    }
+}

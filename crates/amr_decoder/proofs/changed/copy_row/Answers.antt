@@ -1,0 +1,41 @@
+use Rattle.std.proofs.Common.{◌≡◌, sym, ◌∙◌, arith}
+use Rattle.std.proofs.lemmas.Int.{ints}
+use Rattle.amr_box.specs.Cells.{width}
+use Rattle.amr_codec.proofs.KeptRows.{none_from}
+use Rattle.amr_patch.specs.Levels.{level_of}
+use Rattle.amr_decoder.proofs.ChangedRows.{all_copied, more_copied, none_copied, one_missing}
+use Rattle.amr_decoder.proofs.changed.copy_row.Goals as goal
+
+pub loop-first-init : goal.loop-first-init
+loop-first-init c = record { copied = none_copied (level_of c.args.level.now).masses c.args.b.now c.args.j c.args.masses.now.items; within = omega arith }
+
+pub cell_in-c-requires-clause-column : goal.cell_in-c-requires-clause-column
+cell_in-c-requires-clause-column c = omega (arith, ints, c.width-columns.ensures.corners, c.loop-first-test.true)
+
+pub returns-then-is_none-clause-cells : goal.returns-then-is_none-clause-cells
+returns-then-is_none-clause-cells c =
+    sym (one_missing (level_of c.args.level.now).masses c.args.b.now c.args.j c.loop-first.first c.cell_in-c.result c.cell_in-c.ensures.place (sym c.get.ensures ∙ none_from c.get.result c.if-is_none.ensures)
+    (omega (arith, c.loop-first-test.true, c.width-columns.ensures.value)))
+
+pub loop-first-preserved : goal.loop-first-preserved
+loop-first-preserved c =
+    let l = c.loop-first in
+    let n = c.min-count.result in
+    let span = c.span-span.result.now in
+    record {
+      copied = more_copied (level_of c.args.level.now).masses c.args.b.now c.args.j l.first n c.cell_in-c.result c.args.masses.now.items l.masses.items c.extend_from_slice.new.self.items span c.cell_in-c.ensures.place (omega (arith, c.min-count.ensures))
+          c.span-span.ensures.masses l.invariant.copied c.in_ok-extend_from_slice.ensures.items;
+      within = omega (arith, c.min-count.ensures, c.loop-first-test.true, c.width-columns.ensures.value);
+    }
+
+pub returns-clause-cells : goal.returns-clause-cells
+returns-clause-cells c =
+    let l = c.loop-first in
+    let all : l.first ≡ width c.args.b.now = omega (arith, c.loop-first-test.false, l.invariant.within, c.width-columns.ensures.value) in
+    sym (all_copied (level_of c.args.level.now).masses c.args.b.now c.args.j l.first c.args.masses.now.items l.masses.items all l.invariant.copied).1
+
+pub returns-clause-masses : goal.returns-clause-masses
+returns-clause-masses c kept =
+    let l = c.loop-first in
+    let all : l.first ≡ width c.args.b.now = omega (arith, c.loop-first-test.false, l.invariant.within, c.width-columns.ensures.value) in
+    (all_copied (level_of c.args.level.now).masses c.args.b.now c.args.j l.first c.args.masses.now.items l.masses.items all l.invariant.copied).0

@@ -1,0 +1,21 @@
+use Rattle.std.proofs.Common.{arith}
+use Rattle.std.specs.Global.{Box as boxed}
+use Rattle.amr_lots.specs.declared.lot.Lot.{Lot as lot}
+use Rattle.amr_lots.proofs.HandedRuns.{handed_on, rest_counts, taken_back}
+use Rattle.amr_lots.proofs.exchange.+exchange_runs.Goals as goal
+
+pub exchange_runs-requires : goal.exchange_runs-requires
+exchange_runs-requires t c = (
+  omega (arith, c.decreases, c.in-Some.ensures.cases.1),
+  rest_counts (λ (b : boxed lot). b.value.patches.items) c.args.size c.min-count.result c.args.patches.now c.split_at_mut-first.result.0.now c.split_at_mut-first.result.1.now c.min-count.ensures c.split_at_mut-first.ensures.front c.split_at_mut-first.ensures.back c.args.lots.now c.in-Some.rest.now c.in-Some.lot.now c.in-Some.ensures.cases.0 c.requires.counts,
+)
+
+pub returns-clause-handed : goal.returns-clause-handed
+returns-clause-handed t c =
+    handed_on (λ (b : boxed lot). b.value.patches.items) c.args.size c.min-count.result c.args.patches.now c.split_at_mut-first.result.0.now c.split_at_mut-first.result.1.now c.min-count.ensures c.split_at_mut-first.ensures.front c.split_at_mut-first.ensures.back c.args.lots.now c.in-Some.rest.now c.in-Some.lot.now c.in-Some.ensures.cases.0 c.requires.counts
+    c.trade.new.lot c.exchange_runs.new.lots c.trade.ensures.handed c.exchange_runs.ensures.handed
+
+pub returns-clause-back : goal.returns-clause-back
+returns-clause-back t c =
+    taken_back (λ (b : boxed lot). b.value.patches.items) c.args.size c.min-count.result c.args.patches.now c.split_at_mut-first.result.0.now c.split_at_mut-first.result.1.now c.min-count.ensures c.split_at_mut-first.ensures.front c.split_at_mut-first.ensures.back c.args.lots.now c.in-Some.rest.now c.in-Some.lot.now c.in-Some.ensures.cases.0 c.requires.counts
+    c.trade.new.patches c.exchange_runs.new.patches c.trade.ensures.back c.exchange_runs.ensures.count c.exchange_runs.ensures.back

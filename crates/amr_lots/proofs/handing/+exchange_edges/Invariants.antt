@@ -1,5 +1,0 @@
-use Rattle.std.proofs.Common.{length}
-use Rattle.amr_lots.proofs.handing.+exchange_edges.Given as goal
-
-abbrev pub decreases-exchange_edges : goal.decreases-exchange_edges
-decreases-exchange_edges l = length l.lots.now

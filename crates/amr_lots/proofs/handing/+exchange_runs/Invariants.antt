@@ -1,5 +1,0 @@
-use Rattle.std.proofs.Common.{length}
-use Rattle.amr_lots.proofs.handing.+exchange_runs.Given as goal
-
-abbrev pub decreases-exchange_runs : goal.decreases-exchange_runs
-decreases-exchange_runs l = length l.lots.now

@@ -1,0 +1,38 @@
+use Rattle.std.proofs.Common.{◌≡◌, ◌∙◌, ℕ, List, length, refl, sym, ap, subst}
+use Rattle.std.specs.Prelude.{slice_index}
+use Rattle.std.specs.Vec.{with_items}
+use Rattle.amr_flux.specs.Rooms.{widest}
+use Rattle.amr_flux.specs.declared.fluxes.Sides.{Sides}
+use Rattle.amr_lots.specs.declared.lot.Workspace.{Workspace}
+use Rattle.amr_layout.specs.LevelFlowLists.{flow_lists}
+use Rattle.amr_lots.specs.Lots.{AreReady}
+use Rattle.amr_lots.specs.Ready.{HasFlowsIn}
+use Rattle.amr_lots.specs.Stepping.{AreSweptOn}
+use Rattle.amr_lots.proofs.Filled.{flows_now, given_items, has_begun, ready_now}
+use Rattle.amr_lots.proofs.sweep.sweep_all.Goals as goal
+
+pub begin-requires : goal.begin-requires
+begin-requires c = record { inside = c.requires.inside; fill = c.requires.fill; edges = c.requires.lists }
+
+pub sweep_patches-requires-clause-ready : goal.sweep_patches-requires-clause-ready
+sweep_patches-requires-clause-ready c =
+    let t = c.begin.new.workspace in
+    subst (λ (ws : List ℕ). AreReady c.args.p.now c.args.l (widest t.room) (length ws) c.begin.new.patches (flow_lists t.flows (length c.begin.new.patches))) (sym c.deref_mut.ensures.value)
+    (ready_now c.args.p.now c.args.l c.args.patches.now c.begin.new.patches c.args.edges.now c.args.workspace.now c.begin.new.workspace c.requires c.begin.ensures.outer c.begin.ensures.filled c.begin.ensures.others)
+
+pub sweep_patches-requires-clause-flows : goal.sweep_patches-requires-clause-flows
+sweep_patches-requires-clause-flows c =
+    subst (λ (ds : List Sides). HasFlowsIn c.begin.new.workspace.flows ds c.begin.new.patches) (sym c.deref.ensures.value) (flows_now c.args.p.now c.args.l c.args.patches.now c.begin.new.patches c.args.edges.now c.args.workspace.now c.begin.new.workspace c.requires c.begin.ensures.outer c.begin.ensures.filled c.begin.ensures.others)
+
+pub returns : goal.returns
+returns c =
+    let s = c.args.workspace.now in
+    let t = c.begin.new.workspace in
+    let totals : (with_items t.totals c.sweep_patches.new.totals).items ≡ c.sweep_patches.new.totals = given_items t.totals c.deref_mut.result.now c.sweep_patches.new.totals c.deref_mut.ensures.value (sym c.sweep_patches.ensures.count) in
+    let after : Workspace = record t { totals = with_items t.totals c.sweep_patches.new.totals; room = c.sweep_patches.new.room } in
+    record {
+      filled = c.begin.new.patches;
+      begun = has_begun c.args.p.now c.args.l c.args.patches.now c.begin.new.patches c.args.edges.now c.begin.new.edges s t after c.begin.ensures.outer c.begin.ensures.filled c.begin.ensures.others c.begin.ensures.nets
+          c.sweep_patches.ensures.room (ap length totals ∙ c.sweep_patches.ensures.count ∙ ap length c.deref_mut.ensures.value) (λ word. ap (λ ws. slice_index ws word) totals ∙ c.sweep_patches.ensures.totals word) refl;
+      swept = subst (λ (ds : List Sides). AreSweptOn c.args.p.now c.args.l ds c.begin.new.patches c.sweep_patches.new.patches) (c.deref.ensures.value ∙ ap (λ (x : Workspace). x.sides.items) c.begin.ensures.others) c.sweep_patches.ensures.swept;
+    }

@@ -1,0 +1,75 @@
+//! Who makes the texts of a level's boxes: the caller alone, or several threads before they are put.
+
+ghost use Rattle.std.specs.Prelude.{◌≡◌, ◌≤◌, IfSome};
+ghost use Rattle.std.specs.List.{flat_map};
+ghost use Rattle.amr_def.specs.Facts.{IsLevel};
+ghost use Rattle.amr_def.specs.Plot.{box_text};
+ghost use Rattle.amr_patch.specs.Levels.{level_of};
+ghost use Rattle.amr_plot.specs.Boxes.{joined};
+
+use crate::runs::texts_by_runs;
+use amr_def::Problem;
+use amr_patch::{Level, Patch};
+use std::alloc::Global;
+use std::thread::Threads;
+
+/// From how many cells on the boxes of a level are shared out among threads. To make and join three threads costs a quarter of
+/// a millisecond.
+const MANY: u64 = 1 << 15;
+
+/// Who makes the texts of a level's boxes: the calling thread as it puts them ([`Putter`]), or several threads before
+/// they are put ([`TextThreads`]).
+pub(crate) trait TextMaker {
+    // That threads may share the runtime, where there is one.
+    ghost may_share: { Self → Type 0 };
+
+    /// The texts of the boxes of level `l`, made before they are put, some parts of boxes in each. `None` where the caller is to
+    /// put the boxes itself.
+    fn made_before(&self, p: &Problem, l: u32, level: &Level) -> Option<Vec<Vec<u8>>>
+        requires shared { may_share self.now }
+        requires fine { l ≤ 4 }
+        requires level { IsLevel p.now l (level_of level.now) }
+        ensures { IfSome result (λ v. joined v.items ≡ flat_map (box_text (level_of level.now).masses) (level_of level.now).boxes) };
+}
+
+/// The calling thread puts all boxes, and takes no memory.
+#[derive(Clone, Copy)]
+pub(crate) struct Putter;
+
+impl TextMaker for Putter {
+    ghost may_share = { λ _. Unit {0} };
+
+    fn made_before(&self, _p: &Problem, _l: u32, _level: &Level) -> Option<Vec<Vec<u8>>> {
+        None
+    }
+}
+
+/// Each of several threads makes the text of a run of the boxes' parts, where these have many cells.
+#[derive(Drop)]
+pub(crate) struct TextThreads<'a, R> {
+    pub(crate) runtime: &'a R,
+    pub(crate) threads: usize,
+    pub(crate) alloc: Global,
+}
+
+impl<R: Threads + Sync> TextMaker for TextThreads<'_, R> {
+    ghost use Rattle.std.specs.Thread.{IsSync};
+
+    ghost may_share = { λ _. IsSync R.row };
+
+    fn made_before(&self, p: &Problem, l: u32, level: &Level) -> Option<Vec<Vec<u8>>> {
+        if self.threads < 2 || !are_many(level.patches()) {
+            return None;
+        }
+        texts_by_runs(self.runtime, self.threads, self.alloc, p, l, level).ok()
+    }
+}
+
+/// Whether the patches have many cells.
+fn are_many(patches: &[Patch]) -> bool {
+    let mut cells: u64 = 0;
+    for p in patches {
+        cells = cells.saturating_add(p.bx().area());
+    }
+    cells >= MANY
+}

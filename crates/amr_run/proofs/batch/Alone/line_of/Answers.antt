@@ -1,5 +1,0 @@
-use Rattle.std.proofs.Common.{◌∙◌, [], sym}
-use Rattle.amr_run.proofs.batch.Alone.line_of.Goals as goal
-
-pub returns-in-Ok : goal.returns-in-Ok
-returns-in-Ok g c = c.into_bytes.ensures.held ∙ sym (c.in-Ok.ensures.whole [] c.make-page.ensures.told)
