@@ -87,7 +87,8 @@ fn decode_record(
     bytes: &[u8],
 ) -> Result<Mesh, StateFault>
     requires old { IsMeshFor p.now old.now }
-    ensures read { (q : ℕ) → sequence ≡ Some q → ReadsAs (record_read p.now (state_of old.now) (record { sequence = q; payload = bytes.now })) (Part.Chain number) result }
+    ensures read { (q : ℕ) → sequence ≡ Some q
+        → ReadsAs (record_read p.now (state_of old.now) (record { sequence = q; payload = bytes.now })) (Part.Chain number) result }
     ensures mesh { IfOk result (IsMeshFor p.now) }
     ensures sequence { IfOk result (λ mesh. sequence ≡ Some ((state_of mesh).step + 1)) }
     ensures no_disk_fault { IfErr result (λ fault. fault ≢ StateFault.Refused CheckpointFault.DiskFault) }

@@ -106,7 +106,8 @@ fn read_changed_row(
     requires level { kind.level ≤ 4 }
     requires near { IsNear b.now }
     requires inside { (b.now.lo.y +ℤ pos j) ≤ℤ b.now.hi.y }
-    ensures read { OnOk result (read_joined masses.old.items (read_changed (masses_before old.entry) p.now kind.step kind.level (cells_of_row b.now j) (left_of reader.old))
+    ensures read { OnOk result (read_joined masses.old.items
+        (read_changed (masses_before old.entry) p.now kind.step kind.level (cells_of_row b.now j) (left_of reader.old))
         ≡ read masses.new.items (left_of reader.new)) }
     ensures bad { IfErr result (IsFaultOf (read_changed (masses_before old.entry) p.now kind.step kind.level (cells_of_row b.now j) (left_of reader.old))) }
     ensures count { OnOk result (length masses.new.items ≡ length masses.old.items + boxes.width b.now) }
@@ -144,7 +145,8 @@ fn read_changed_rows(
     requires step { kind.step ≤ 4096 }
     requires level { kind.level ≤ 4 }
     requires near { IsNear b.now }
-    ensures read { IfOk result (λ ms. read_all_changed (masses_before old.entry) p.now kind.step kind.level (cell_rows b.now) (left_of reader.old) ≡ read ms.items (left_of reader.new)) }
+    ensures read { IfOk result (λ ms. read_all_changed (masses_before old.entry) p.now kind.step kind.level (cell_rows b.now) (left_of reader.old)
+        ≡ read ms.items (left_of reader.new)) }
     ensures bad { IfErr result (IsFaultOf (read_all_changed (masses_before old.entry) p.now kind.step kind.level (cell_rows b.now) (left_of reader.old))) }
     ensures count { IfOk result (λ ms. length ms.items ≡ boxes.width b.now * boxes.height b.now) }
     ensures whole { whole_of reader.new ≡ whole_of reader.old }

@@ -125,7 +125,8 @@ pub fn read_levels(
     requires basis { IsBasisOf p.now basis.now }
     requires step { step ≤ 4096 }
     requires after { length (basis_of basis.now).rows ≤ step }
-    ensures read { IfOk result (λ ks. read_levels (basis_of basis.now).forms p.now step (left_of reader.old) ≡ read (map level_of ks.items) (left_of reader.new)) }
+    ensures read { IfOk result (λ ks. read_levels (basis_of basis.now).forms p.now step (left_of reader.old)
+        ≡ read (map level_of ks.items) (left_of reader.new)) }
     ensures bad { IfErr result (IsFaultOf (read_levels (basis_of basis.now).forms p.now step (left_of reader.old))) }
     ensures base { IfOk result (λ ks. HasBase p.now (map level_of ks.items)) }
     ensures chopped { IfOk result (λ ks. All (IsChopped p.now.max_grid_size) ks.items) }

@@ -3,7 +3,8 @@
 ghost use Rattle.std.specs.Prelude.{◌≡◌, ◌+◌, ◌-◌, ◌^◌, ◌<◌, ◌≤◌, false, length, IfOk, IfErr, OnOk};
 ghost use Rattle.amr_codec.specs.Forms.{IsBasisOf, basis_of};
 ghost use Rattle.amr_patch.specs.Meshes.{is_spent, state_of};
-ghost use Rattle.amr_payload.specs.Tests.{has_no_flows, is_row_after, read, read_first_row, read_joined, read_ledger, read_row, read_row_after, read_rows, read_rows_after, read_step};
+ghost use Rattle.amr_payload.specs.Tests.{has_no_flows, is_row_after, read, read_first_row, read_joined, read_ledger, read_row};
+ghost use Rattle.amr_payload.specs.Tests.{read_row_after, read_rows, read_rows_after, read_step};
 ghost use Rattle.amr_decoder.specs.Faults.{IsFaultOf};
 ghost use Rattle.amr_decoder.specs.Lefts.{left_of};
 

@@ -35,13 +35,15 @@ impl<'p, 's, 'e, 'd, E: Sink, D: Disk> AfterStep for Keeper<'p, 's, 'e, 'd, E, D
     ghost answers = { λ a s answer b. (b.keeping ≡ a.keeping) × (b.store.ghost_name ≡ a.store.ghost_name) × (b.err.ghost_name ≡ a.err.ghost_name)
         × (b.disk.ghost_name ≡ a.disk.ghost_name)
         × ((bytes : List ℕ) → HasProblem a.store.now bytes → OnOk answer (HasProblem b.store.now bytes)
-        × (let shown = outside_at D.seen D.moment D.leaves D.faults E.holds E.faults in Keeps a.keeping.deltas (shown a.disk.now a.err.now) (shown b.disk.now b.err.now)
+        × (let shown = outside_at D.seen D.moment D.leaves D.faults E.holds E.faults in
+        Keeps a.keeping.deltas (shown a.disk.now a.err.now) (shown b.disk.now b.err.now)
         (checkpoints_of (run_of bytes a.keeping) (s ∷ [])) (fault_in answer))) };
 
     ghost made = { λ a states answer b. (b.keeping ≡ a.keeping) × (b.store.ghost_name ≡ a.store.ghost_name) × (b.err.ghost_name ≡ a.err.ghost_name)
         × (b.disk.ghost_name ≡ a.disk.ghost_name)
         × ((bytes : List ℕ) → HasProblem a.store.now bytes → OnOk answer (HasProblem b.store.now bytes)
-        × (let shown = outside_at D.seen D.moment D.leaves D.faults E.holds E.faults in Keeps a.keeping.deltas (shown a.disk.now a.err.now) (shown b.disk.now b.err.now)
+        × (let shown = outside_at D.seen D.moment D.leaves D.faults E.holds E.faults in
+        Keeps a.keeping.deltas (shown a.disk.now a.err.now) (shown b.disk.now b.err.now)
         (checkpoints_of (run_of bytes a.keeping) states) (fault_in answer))) };
 
     ghost made_none = { λ a. (
