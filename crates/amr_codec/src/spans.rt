@@ -14,7 +14,8 @@ use amr_patch::{Level, cell_in, find_near};
 pub fn span_near<'a>(level: &'a Level, near: &mut usize, c: Cell) -> Option<&'a [u32]>
     ensures there { is_some result ≡ is_some ((level_of level.now).masses c) }
     ensures some { IfSome result (λ span. 0 < length span.now) }
-    ensures masses { IfSome result (λ span. (k : ℕ) → k < length span.now → (level_of level.now).masses (cell (c.x +ℤ pos k) c.y) ≡ Some (slice_index span.now k)) }
+    ensures masses { IfSome result (λ span. (k : ℕ) → k < length span.now
+        → (level_of level.now).masses (cell (c.x +ℤ pos k) c.y) ≡ Some (slice_index span.now k)) }
 {
     let patches = level.patches();
     match find_near(patches, level.order(), near, c) {
