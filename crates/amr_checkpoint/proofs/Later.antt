@@ -133,10 +133,10 @@ module _ {D : Type 0} (seen : D → Option (List ℕ)) (moment : D → ℕ) (lea
   }
 
   -- a later one than the latest
-  pub may_put_after : (p : Problem) (st : Store) (copy : Option Mesh) (s later : State) (d : D) → IsStorePast p (s.step + 1) st → IsStoreReady seen moment leaves st d → ((version_in st ≡ 3 → ⊥) → deltas_in st ≡ 0) → IsSound p s
+  pub may_put_after : (p : Problem) (st : Store) (copy spare : Option Mesh) (s later : State) (d : D) → IsStorePast p (s.step + 1) st → IsStoreReady seen moment leaves st d → ((version_in st ≡ 3 → ⊥) → deltas_in st ≡ 0) → IsSound p s
       → IsLater s later → IsCopyWhere (nat_lt (chain_in st) (deltas_in st)) s copy → ((image : List ℕ) → seen d ≡ Some image → Holds image (At (problem_in st) p s (s.step + 1)))
-      → MayPut seen moment leaves p (record { store = st; latest = copy }) later d
-  may_put_after p st copy s later d past ready none sound on wanted held = record {
+      → MayPut seen moment leaves p (record { store = st; latest = copy; spare = spare }) later d
+  may_put_after p st copy spare s later d past ready none sound on wanted held = record {
     store_is = past.store_is;
     above = subst (λ (o : Option ℕ). IfSome o (λ l. l < later.step + 1)) (sym past.last) (let less = on.step in omega (arith, less));
     ready = ready;
@@ -159,4 +159,4 @@ module _ {D : Type 0} (seen : D → Option (List ℕ)) (moment : D → ℕ) (lea
       → IsLater s later → IsCopyWhere (nat_lt (chain_in st) (deltas_in st)) s kept.latest → ((image : List ℕ) → seen d ≡ Some image → Holds image (At (problem_in st) p s (s.step + 1)))
       → MayPut seen moment leaves p kept later d
   may_put_kept p kept st s later d same past ready none sound on wanted held =
-      subst (λ (x : Store). MayPut seen moment leaves p (record { store = x; latest = kept.latest }) later d) (sym same) (may_put_after p st kept.latest s later d past ready none sound on wanted held)
+      subst (λ (x : Store). MayPut seen moment leaves p (record { store = x; latest = kept.latest; spare = kept.spare }) later d) (sym same) (may_put_after p st kept.latest kept.spare s later d past ready none sound on wanted held)

@@ -13,3 +13,4 @@ pub mod Causes
 pub mod Folded
 pub mod Later
 mod Rows
+mod Exchanging

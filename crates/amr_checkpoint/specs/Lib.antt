@@ -9,3 +9,4 @@ pub mod Laws
 pub mod Outside
 pub mod Kept
 pub mod Made
+pub mod Exchanges

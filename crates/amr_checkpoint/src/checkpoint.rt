@@ -23,6 +23,7 @@ ghost use Rattle.amr_checkpoint.specs.Kept.{fault_in};
 ghost use Rattle.amr_checkpoint.specs.Made.{ReadsWith, deltas_made, image_made, state_made, takes_record, version_made};
 
 use crate::contents::fault_of_call;
+use crate::exchange::{kept_after, place_beside, place_over};
 use crate::faults::CheckpointFault;
 use amr_causes::NoMemory;
 use amr_codec::{encode2, slot_size2};
@@ -40,6 +41,8 @@ pub struct KeptStore {
     pub store: Store,
     /// Its latest state, exactly where the next one is put as a record on it.
     pub latest: Option<Mesh>,
+    /// A mesh that an older state was kept in, whose memory a later one may take.
+    pub spare: Option<Mesh>,
 }
 
 /// How many bytes a slot has in a store of version 2.
@@ -203,6 +206,7 @@ impl KeptStore {
         KeptStore {
             store,
             latest: None,
+            spare: None,
         }
     }
 
@@ -216,7 +220,11 @@ impl KeptStore {
         let chain = store.chain();
         let most = store.deltas();
         match latest_of(mesh, chain, most) {
-            Ok(latest) => Ok(KeptStore { store, latest }),
+            Ok(latest) => Ok(KeptStore {
+                store,
+                latest,
+                spare: None,
+            }),
             Err(NoMemory) => Err(NoMemory),
         }
     }
@@ -240,32 +248,30 @@ pub fn put_checkpoint<D: Disk>(
     ensures settled { IfOk result (λ _. Only (D.seen disk.new) (D.leaves disk.new (D.moment disk.new))) }
     ensures put { IsPut D.seen D.moment D.leaves D.faults (problem_in kept.store) p.now (state_of mesh.now) (fault_in result) disk.old disk.new }
 {
-    let KeptStore { store, latest } = kept;
+    let KeptStore {
+        store,
+        latest,
+        spare,
+    } = kept;
     let most = store.deltas();
     match latest {
         Some(old) => {
-            let copy = match latest_of(mesh, store.chain() + 1, most) {
-                Ok(copy) => copy,
+            let place = match place_over(alloc, p, store.chain() + 1, most, &old, mesh) {
+                Ok(place) => place,
                 Err(NoMemory) => return Err(CheckpointFault::NoMemory),
             };
             match put_record(alloc, p, &old, mesh, store, disk) {
-                Ok(store) => Ok(KeptStore {
-                    store,
-                    latest: copy,
-                }),
+                Ok(store) => Ok(kept_after(store, place, Some(old), mesh)),
                 Err(fault) => Err(fault),
             }
         }
         None => {
-            let copy = match latest_of(mesh, 0, most) {
-                Ok(copy) => copy,
+            let place = match place_beside(alloc, p, 0, most, &spare, mesh) {
+                Ok(place) => place,
                 Err(NoMemory) => return Err(CheckpointFault::NoMemory),
             };
             match put_whole(alloc, p, mesh, store, disk) {
-                Ok(store) => Ok(KeptStore {
-                    store,
-                    latest: copy,
-                }),
+                Ok(store) => Ok(kept_after(store, place, spare, mesh)),
                 Err(fault) => Err(fault),
             }
         }

@@ -13,6 +13,7 @@ mod acknowledgement;
 mod checkpoint;
 mod contents;
 mod difference;
+mod exchange;
 mod faults;
 mod latest;
 mod laws;

@@ -1,7 +1,7 @@
 -- Bytes that are put one after another: those of the entries of a list, and of the numbers of a range.
-use Rattle.std.proofs.Common.{◌≡◌, ℕ, suc, ◌+◌, ◌<◌, ◌≤◌, List, [], ◌∷◌, ◌++◌, length, get_or, take, drop, length-take-le, map, zero, refl, sym, ap, ◌∙◌, append_assoc, append-nil, arith, pos, ◌+ℤ◌}
+use Rattle.std.proofs.Common.{◌≡◌, ℕ, suc, ◌+◌, ◌<◌, ◌≤◌, List, [], ◌∷◌, ◌++◌, length, length-append, get_or, take, drop, length-take-le, map, zero, refl, sym, ap, ◌∙◌, append_assoc, append-nil, arith, pos, ◌+ℤ◌}
 use Rattle.std.specs.List.{flat_map, range_with_len}
-use Rattle.std.proofs.lemmas.List.{drop-append-le, flat_map_more, take_all}
+use Rattle.std.proofs.lemmas.List.{drop-append-le, flat_map_more, take_all, take_at}
 use Rattle.std.proofs.lemmas.Grind.{take_at_read}
 use Rattle.std.proofs.lemmas.List.Concat.{flat_map-append}
 use Rattle.std.proofs.lemmas.List.Folds.{flat_map-map}
@@ -99,3 +99,20 @@ pub rows_of_cells : (g : Cell → List ℕ) (b : Extent) → flat_map g (cells_o
 rows_of_cells g b =
     flat_map_twice g (λ j. map (λ i. cell (b.lo.x +ℤ pos i) (b.lo.y +ℤ pos j)) (range_with_len 0 (width b))) (range_with_len 0 (height b))
     ∙ (λ t. flat_map (λ j. flat_map-map g (λ i. cell (b.lo.x +ℤ pos i) (b.lo.y +ℤ pos j)) (range_with_len 0 (width b)) t) (range_with_len 0 (height b)))
+
+-- ---- numbers written over bytes
+
+-- the front of a list, up to the end of what was written at a place
+front_written : (bytes ys post : List ℕ) (at m : ℕ) → at ≤ length bytes → m ≡ at + length ys → take m (take at bytes ++ (ys ++ post)) ≡ take at bytes ++ ys
+front_written bytes ys post at m within end =
+    ap (take m) (sym (append_assoc (take at bytes) ys post)) ∙ take_at (take at bytes ++ ys) post m (omega (arith, end, length-append (take at bytes) ys, length-take-le at bytes within))
+
+-- one number more
+pub number_written : (f : ℕ → List ℕ) (numbers bytes ys post : List ℕ) (k x at m : ℕ) → k < length numbers → x ≡ get_or numbers k 0 → ys ≡ f x → at ≤ length bytes → m ≡ at + length ys → take at bytes ≡ flat_map f (take k numbers)
+    → take m (take at bytes ++ (ys ++ post)) ≡ flat_map f (take (k + 1) numbers)
+number_written f numbers bytes ys post k x at m inside is here within end before =
+    front_written bytes ys post at m within end ∙ ap (λ (zs : List ℕ). zs ++ ys) before ∙ ap (λ (zs : List ℕ). flat_map f (take k numbers) ++ zs) here ∙ entry_more f [] numbers k x 0 inside is
+
+-- all numbers
+pub all_written : (f : ℕ → List ℕ) (numbers bytes : List ℕ) (k at : ℕ) → length bytes ≤ at → length numbers ≤ k → take at bytes ≡ flat_map f (take k numbers) → bytes ≡ flat_map f numbers
+all_written f numbers bytes k at end all before = sym (take_all at bytes end) ∙ before ∙ ap (flat_map f) (take_all k numbers all)

@@ -1,5 +1,5 @@
 //! The masses of a box by a form: all of them, or those of the rows that changed since an older state. A row is compared span by
-//! span.
+//! span, and where both levels have the same patches each is found at the first look.
 
 ghost use Rattle.std.specs.Prelude.{◌≡◌, ℕ, ◌+◌, ◌<◌, ◌≤◌, ◌++◌, ◌↔◌, pos, ◌+ℤ◌, ◌≤ℤ◌, length, slice_index, IsTrue, OnOk};
 ghost use Rattle.std.specs.List.{flat_map};
@@ -12,9 +12,18 @@ ghost use Rattle.amr_codec.specs.Forms.{HasMassAt, cells_of_row, form_of, masses
 use crate::basis::Form;
 use crate::numbers::{MassWidth, put_flag};
 use crate::rows::{put_row, put_rows};
+use crate::spans::{masses_near, span_near};
 use amr_box::Bx;
 use amr_causes::NoMemory;
-use amr_patch::{Level, cell_in, masses_from};
+use amr_patch::{Level, cell_in};
+
+/// Where look-ups of a row begin, in the level that is written and in the older one: at the patches that had the first cell of the
+/// last row.
+#[derive(Clone, Copy)]
+struct Places {
+    new: usize,
+    old: usize,
+}
 
 /// Whether numbers are equal, one by one.
 fn are_equal(a: &[u32], b: &[u32]) -> bool
@@ -30,7 +39,7 @@ fn are_equal(a: &[u32], b: &[u32]) -> bool
 
 /// How many cells of a row of the box have these masses, from column `first` on and as far as they stand in one patch. 0 where
 /// one of these has another mass, or the first is no cell of the level.
-fn span_with(level: &Level, b: &Bx, row: u32, first: u32, masses: &[u32]) -> usize
+fn span_with(level: &Level, near: &mut usize, b: &Bx, row: u32, first: u32, masses: &[u32]) -> usize
     requires near { IsNear b.now }
     requires row { (b.now.lo.y +ℤ pos row) ≤ℤ b.now.hi.y }
     requires some { 0 < length masses.now }
@@ -39,21 +48,21 @@ fn span_with(level: &Level, b: &Bx, row: u32, first: u32, masses: &[u32]) -> usi
     ensures same { (k : ℕ) → k < result → HasMassAt (level_of level.now).masses b.now row (first + k) (slice_index masses.now k) }
     ensures none { result ≡ 0 → ((k : ℕ) → k < length masses.now → HasMassAt (level_of level.now).masses b.now row (first + k) (slice_index masses.now k)) → ⊥ }
 {
-    let c = cell_in(b, row, first);
-    if level.get(c).is_none() {
-        return 0;
-    }
-    let span = level.span(c);
-    let count = span.len().min(masses.len());
-    if are_equal(&span[..count], &masses[..count]) {
-        count
-    } else {
-        0
+    match span_near(level, near, cell_in(b, row, first)) {
+        None => 0,
+        Some(span) => {
+            let count = span.len().min(masses.len());
+            if are_equal(&span[..count], &masses[..count]) {
+                count
+            } else {
+                0
+            }
+        }
     }
 }
 
 /// Whether the cells of a row of the box from column `first` on are cells of the level and have these masses.
-fn level_has(level: &Level, b: &Bx, row: u32, first: u32, masses: &[u32]) -> bool
+fn level_has(level: &Level, near: &mut usize, b: &Bx, row: u32, first: u32, masses: &[u32]) -> bool
     requires near { IsNear b.now }
     requires row { (b.now.lo.y +ℤ pos row) ≤ℤ b.now.hi.y }
     requires columns { first + length masses.now ≤ width b.now }
@@ -61,13 +70,33 @@ fn level_has(level: &Level, b: &Bx, row: u32, first: u32, masses: &[u32]) -> boo
 {
     let mut done = 0;
     while done < masses.len() {
-        let count = span_with(level, b, row, first + done as u32, &masses[done..]);
+        let count = span_with(level, near, b, row, first + done as u32, &masses[done..]);
         if count == 0 {
             return false;
         }
         done += count;
     }
     true
+}
+
+/// The same as `has_masses`, where the patch of the first cell is looked for beside that of number `near`.
+fn has_masses_near(
+    old: Option<&Level>,
+    near: &mut usize,
+    b: &Bx,
+    row: u32,
+    first: u32,
+    masses: &[u32],
+) -> bool
+    requires near { IsNear b.now }
+    requires row { (b.now.lo.y +ℤ pos row) ≤ℤ b.now.hi.y }
+    requires columns { first + length masses.now ≤ width b.now }
+    ensures { IsTrue result ↔ ((k : ℕ) → k < length masses.now → HasMassAt (masses_before old.entry) b.now row (first + k) (slice_index masses.now k)) }
+{
+    match old {
+        None => masses.is_empty(),
+        Some(level) => level_has(level, near, b, row, first, masses),
+    }
 }
 
 /// Whether an older state has the cells of a row of the box from column `first` on, at this level, and there with these masses.
@@ -78,24 +107,27 @@ pub fn has_masses(old: Option<&Level>, b: &Bx, row: u32, first: u32, masses: &[u
     requires columns { first + length masses.now ≤ width b.now }
     ensures { IsTrue result ↔ ((k : ℕ) → k < length masses.now → HasMassAt (masses_before old.entry) b.now row (first + k) (slice_index masses.now k)) }
 {
-    match old {
-        None => masses.is_empty(),
-        Some(level) => level_has(level, b, row, first, masses),
-    }
+    let mut near = 0;
+    has_masses_near(old, &mut near, b, row, first, masses)
 }
 
 /// Whether the cells of a row of the box have the masses of `level` in the older state.
-fn keeps_row(old: Option<&Level>, level: &Level, b: &Bx, row: u32) -> bool
+fn keeps_row(old: Option<&Level>, level: &Level, places: &mut Places, b: &Bx, row: u32) -> bool
     requires near { IsNear b.now }
     requires row { (b.now.lo.y +ℤ pos row) ≤ℤ b.now.hi.y }
     requires cells { HasCellsOf level.now b.now }
     ensures { IsTrue result ↔ ((i : ℕ) → i < width b.now → HasMassAt (masses_before old.entry) b.now row i (mass_in level.now b.now row i)) }
 {
     let columns = b.width();
+    let mut here = *places;
     let mut first = 0;
     while first < columns {
-        let masses = masses_from(level, b, row, first);
-        if !has_masses(old, b, row, first, masses) {
+        let masses = masses_near(level, &mut here.new, b, row, first);
+        let kept = has_masses_near(old, &mut here.old, b, row, first, masses);
+        if first == 0 {
+            *places = here;
+        }
+        if !kept {
             return false;
         }
         first += masses.len() as u32;
@@ -108,6 +140,7 @@ fn keeps_row(old: Option<&Level>, level: &Level, b: &Bx, row: u32) -> bool
 fn put_changed_row(
     old: Option<&Level>,
     level: &Level,
+    places: &mut Places,
     b: &Bx,
     row: u32,
     out: &mut Vec<u8>,
@@ -118,11 +151,11 @@ fn put_changed_row(
     ensures { OnOk result (out.new.items
         ≡ out.old.items ++ changed_bytes (masses_before old.entry) (level_of level.now).masses (cells_of_row b.now row)) }
 {
-    if keeps_row(old, level, b, row) {
+    if keeps_row(old, level, places, b, row) {
         return put_flag(0, out);
     }
     put_flag(1, out)?;
-    put_row(MassWidth::Four, level, b, row, out)
+    put_row(MassWidth::Four, level, &mut places.new, b, row, out)
 }
 
 /// The rows of the box that changed, from the low row on.
@@ -137,8 +170,9 @@ fn put_changed_rows(
     ensures { OnOk result (out.new.items
         ≡ out.old.items ++ flat_map (changed_bytes (masses_before old.entry) (level_of level.now).masses) (cell_rows b.now)) }
 {
+    let mut places = Places { new: 0, old: 0 };
     for row in 0..b.height() {
-        put_changed_row(old, level, b, row, out)?;
+        put_changed_row(old, level, &mut places, b, row, out)?;
     }
     Ok(())
 }

@@ -9,9 +9,11 @@ mod levels;
 mod numbers;
 mod rows;
 mod sizes;
+mod spans;
 
 pub use basis::{Basis, Form, form_at, rows_before};
 pub use changes::has_masses;
 pub use encoders::{encode, encode2, put_state};
 pub use numbers::{MassWidth, put_u64};
 pub use sizes::{room, slot_size, slot_size2};
+pub use spans::span_near;

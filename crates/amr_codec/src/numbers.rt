@@ -1,6 +1,6 @@
 //! Numbers as bytes, the low byte first.
 
-ghost use Rattle.std.specs.Prelude.{◌≡◌, ◌++◌, ◌≤ℤ◌, pos, OnOk};
+ghost use Rattle.std.specs.Prelude.{◌≡◌, ◌*◌, ◌^◌, ◌≤◌, ◌++◌, ◌≤ℤ◌, length, pos, OnOk};
 ghost use Rattle.std.specs.Int.{w8, w32, w64};
 ghost use Rattle.std.specs.List.{flat_map};
 ghost use Rattle.amr_box.specs.Cells.{at_least_zero};
@@ -66,25 +66,49 @@ pub(crate) fn put_count_of_boxes(n: usize, out: &mut Vec<u8>) -> Result<(), NoMe
     Ok(())
 }
 
-fn put_mass(width: MassWidth, mass: u32, out: &mut Vec<u8>) -> Result<(), NoMemory>
-    ensures { OnOk result (out.new.items ≡ out.old.items ++ number_bytes (width_of width) mass) }
+/// Numbers of four bytes, one after another, written over as many bytes.
+#[tactic(auto, unfolding(amr_payload::specs::Payload::number_bytes))]
+fn write_words(numbers: &[u32], bytes: &mut [u8])
+    requires { length bytes.old ≡ 4 * length numbers.now }
+    ensures { bytes.new ≡ flat_map (number_bytes w32) numbers.now }
 {
-    match width {
-        MassWidth::Four => put_u32(mass, out),
-        MassWidth::Eight => put_u64(u64::from(mass), out),
+    for k in 0..numbers.len() {
+        let word = numbers[k].to_le_bytes();
+        bytes[4 * k..4 * k + 4].copy_from_slice(&word);
     }
 }
 
-/// Masses, one after another.
+/// The same of eight bytes.
+#[tactic(auto, unfolding(amr_payload::specs::Payload::number_bytes))]
+fn write_longs(numbers: &[u32], bytes: &mut [u8])
+    requires { length bytes.old ≡ 8 * length numbers.now }
+    ensures { bytes.new ≡ flat_map (number_bytes w64) numbers.now }
+{
+    for k in 0..numbers.len() {
+        let long = u64::from(numbers[k]).to_le_bytes();
+        bytes[8 * k..8 * k + 8].copy_from_slice(&long);
+    }
+}
+
+/// Masses, one after another. There are no more than the cells of a row.
 pub(crate) fn put_masses(
     width: MassWidth,
     masses: &[u32],
     out: &mut Vec<u8>,
 ) -> Result<(), NoMemory>
+    requires { length masses.now ≤ 2 ^ 26 }
     ensures { OnOk result (out.new.items ≡ out.old.items ++ flat_map (number_bytes (width_of width)) masses.now) }
 {
-    for mass in masses {
-        put_mass(width, *mass, out)?;
+    let from = out.len();
+    match width {
+        MassWidth::Four => {
+            out.resize(from + 4 * masses.len(), 0)?;
+            write_words(masses, &mut out[from..]);
+        }
+        MassWidth::Eight => {
+            out.resize(from + 8 * masses.len(), 0)?;
+            write_longs(masses, &mut out[from..]);
+        }
     }
     Ok(())
 }

@@ -21,29 +21,40 @@ use crate::masses::{MassKind, read_masses};
 use crate::reader::{Reader, word_at};
 use amr_box::Bx;
 use amr_causes::NoMemory;
-use amr_codec::{Form, MassWidth, has_masses};
+use amr_codec::{Form, MassWidth, has_masses, span_near};
 use amr_def::Problem;
 use amr_patch::{Level, cell_in};
 use std::alloc::Global;
 
-/// Adds the masses of a row of the box, where each of its cells is one of the level.
-fn copy_row(level: &Level, b: &Bx, j: u32, masses: &mut Vec<u32>) -> Result<bool, NoMemory>
+/// Adds the masses of a row of the box, where each of its cells is one of the level. Its first patch is looked for beside that of
+/// number `near`, and its number left there.
+fn copy_row(
+    level: &Level,
+    near: &mut usize,
+    b: &Bx,
+    j: u32,
+    masses: &mut Vec<u32>,
+) -> Result<bool, NoMemory>
     requires near { IsNear b.now }
     requires inside { (b.now.lo.y +ℤ pos j) ≤ℤ b.now.hi.y }
     ensures cells { IfOk result (λ yes. yes ≡ list_all (λ c. is_some ((level_of level.now).masses c)) (cells_of_row b.now j)) }
     ensures masses { IfOk result (λ yes. IsTrue yes → masses.new.items ≡ masses.old.items ++ map (mass_of (level_of level.now).masses) (cells_of_row b.now j)) }
 {
     let columns = b.width();
+    let mut here = *near;
     let mut first = 0;
     while first < columns {
-        let c = cell_in(b, j, first);
-        if level.get(c).is_none() {
-            return Ok(false);
+        match span_near(level, &mut here, cell_in(b, j, first)) {
+            None => return Ok(false),
+            Some(span) => {
+                if first == 0 {
+                    *near = here;
+                }
+                let count = span.len().min((columns - first) as usize);
+                masses.extend_from_slice(&span[..count])?;
+                first += count as u32;
+            }
         }
-        let span = level.span(c);
-        let count = span.len().min((columns - first) as usize);
-        masses.extend_from_slice(&span[..count])?;
-        first += count as u32;
     }
     Ok(true)
 }
@@ -51,6 +62,7 @@ fn copy_row(level: &Level, b: &Bx, j: u32, masses: &mut Vec<u32>) -> Result<bool
 /// Adds the masses that the cells of a row of the box have in the older state, where it has each of them.
 fn copy_old_row(
     old: Option<&Level>,
+    near: &mut usize,
     b: &Bx,
     j: u32,
     masses: &mut Vec<u32>,
@@ -62,7 +74,7 @@ fn copy_old_row(
 {
     match old {
         None => Ok(false),
-        Some(level) => copy_row(level, b, j, masses),
+        Some(level) => copy_row(level, near, b, j, masses),
     }
 }
 
@@ -97,6 +109,7 @@ fn read_changed_row(
     p: &Problem,
     kind: MassKind,
     old: Option<&Level>,
+    near: &mut usize,
     b: &Bx,
     j: u32,
     reader: &mut Reader<'_>,
@@ -116,7 +129,7 @@ fn read_changed_row(
     let place = reader.place() as u64;
     let flag = reader.read_u8()?;
     if flag == 0 {
-        let kept = copy_old_row(old, b, j, masses)?;
+        let kept = copy_old_row(old, near, b, j, masses)?;
         if !kept {
             return Err(CodecFault::Bad { place });
         }
@@ -152,8 +165,9 @@ fn read_changed_rows(
     ensures whole { whole_of reader.new ≡ whole_of reader.old }
 {
     let mut masses = Vec::new(alloc);
+    let mut near = 0;
     for j in 0..b.height() {
-        read_changed_row(p, kind, old, b, j, reader, &mut masses)?;
+        read_changed_row(p, kind, old, &mut near, b, j, reader, &mut masses)?;
     }
     Ok(masses)
 }

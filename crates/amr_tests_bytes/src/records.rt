@@ -2,6 +2,7 @@
 
 use crate::fields::told;
 use crate::payloads::{put, set, three_levels};
+use amr_causes::NoMemory;
 use amr_codec::encode2;
 use amr_decoder::{CodecFault, decode2};
 use amr_def::Problem;
@@ -77,6 +78,34 @@ fn the_second_step_as_a_record(rt: HostRuntime) -> Result<(), Fail> {
     assert_eq!(rt; record, want);
     let read = decode_delta(alloc, &p, &old, 2, &record)?;
     assert_eq!(rt; encode2(alloc, &p, &read)?, whole);
+    Ok(())
+}
+
+/// Out of memory is all that refuses the record of a state.
+#[test]
+fn memory_for_the_record_of_a_state(rt: HostRuntime) -> Result<(), Fail> {
+    let alloc = rt.alloc();
+    let p = ring(alloc)?;
+    let old = decode2(alloc, &p, &older(alloc)?)?;
+    let new = decode2(alloc, &p, &payload(alloc, 2, [2, 4, 2, 0])?)?;
+    match encode_delta(alloc, &p, &old, 2, &new) {
+        Ok(record) => assert_eq!(rt; record.len(), 75),
+        Err(fault) => assert_eq!(rt; fault, NoMemory),
+    }
+    Ok(())
+}
+
+/// Out of memory is all that refuses the state that a right record is of.
+#[test]
+fn memory_for_the_state_of_a_record(rt: HostRuntime) -> Result<(), Fail> {
+    let alloc = rt.alloc();
+    let p = ring(alloc)?;
+    let old = decode2(alloc, &p, &older(alloc)?)?;
+    let record = record_of_the_second(alloc)?;
+    match decode_delta(alloc, &p, &old, 2, &record) {
+        Ok(mesh) => assert_eq!(rt; mesh.step(), 2),
+        Err(fault) => assert_eq!(rt; fault, CodecFault::NoMemory),
+    }
     Ok(())
 }
 

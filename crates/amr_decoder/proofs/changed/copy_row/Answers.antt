@@ -1,4 +1,4 @@
-use Rattle.std.proofs.Common.{◌≡◌, sym, ◌∙◌, arith}
+use Rattle.std.proofs.Common.{◌≡◌, sym, arith}
 use Rattle.std.proofs.lemmas.Int.{ints}
 use Rattle.amr_box.specs.Cells.{width}
 use Rattle.amr_codec.proofs.KeptRows.{none_from}
@@ -9,22 +9,22 @@ use Rattle.amr_decoder.proofs.changed.copy_row.Goals as goal
 pub loop-first-init : goal.loop-first-init
 loop-first-init c = record { copied = none_copied (level_of c.args.level.now).masses c.args.b.now c.args.j c.args.masses.now.items; within = omega arith }
 
-pub cell_in-c-requires-clause-column : goal.cell_in-c-requires-clause-column
-cell_in-c-requires-clause-column c = omega (arith, ints, c.width-columns.ensures.corners, c.loop-first-test.true)
+pub cell_in-requires-clause-column : goal.cell_in-requires-clause-column
+cell_in-requires-clause-column c = omega (arith, ints, c.width-columns.ensures.corners, c.loop-first-test.true)
 
-pub returns-then-is_none-clause-cells : goal.returns-then-is_none-clause-cells
-returns-then-is_none-clause-cells c =
-    sym (one_missing (level_of c.args.level.now).masses c.args.b.now c.args.j c.loop-first.first c.cell_in-c.result c.cell_in-c.ensures.place (sym c.get.ensures ∙ none_from c.get.result c.if-is_none.ensures)
+pub returns-in-None-clause-cells : goal.returns-in-None-clause-cells
+returns-in-None-clause-cells c =
+    sym (one_missing (level_of c.args.level.now).masses c.args.b.now c.args.j c.loop-first.first c.cell_in.result c.cell_in.ensures.place (none_from ((level_of c.args.level.now).masses c.cell_in.result) (sym c.in-None.ensures.there))
     (omega (arith, c.loop-first-test.true, c.width-columns.ensures.value)))
 
 pub loop-first-preserved : goal.loop-first-preserved
 loop-first-preserved c =
     let l = c.loop-first in
     let n = c.min-count.result in
-    let span = c.span-span.result.now in
+    let span = c.in-Some.span.now in
     record {
-      copied = more_copied (level_of c.args.level.now).masses c.args.b.now c.args.j l.first n c.cell_in-c.result c.args.masses.now.items l.masses.items c.extend_from_slice.new.self.items span c.cell_in-c.ensures.place (omega (arith, c.min-count.ensures))
-          c.span-span.ensures.masses l.invariant.copied c.in_ok-extend_from_slice.ensures.items;
+      copied = more_copied (level_of c.args.level.now).masses c.args.b.now c.args.j l.first n c.cell_in.result c.args.masses.now.items l.masses.items c.extend_from_slice.new.self.items span c.cell_in.ensures.place (omega (arith, c.min-count.ensures))
+          c.in-Some.ensures.masses l.invariant.copied c.in_ok-extend_from_slice.ensures.items;
       within = omega (arith, c.min-count.ensures, c.loop-first-test.true, c.width-columns.ensures.value);
     }
 
