@@ -24,7 +24,7 @@ loop-first-preserved c =
     let span = c.in-Some.span.now in
     record {
       copied = more_copied (level_of c.args.level.now).masses c.args.b.now c.args.j l.first n c.cell_in.result c.args.masses.now.items l.masses.items c.extend_from_slice.new.self.items span c.cell_in.ensures.place (omega (arith, c.min-count.ensures))
-          c.in-Some.ensures.masses l.invariant.copied c.in_ok-extend_from_slice.ensures.items;
+          c.in-Some.ensures.masses l.invariant.copied c.in_ok-extend_from_slice-in-Some.ensures.items;
       within = omega (arith, c.min-count.ensures, c.loop-first-test.true, c.width-columns.ensures.value);
     }
 
