@@ -131,6 +131,10 @@ fn keeps_row(old: Option<&Level>, level: &Level, places: &mut Places, b: &Bx, ro
             return false;
         }
         first += masses.len() as u32;
+        here = Places {
+            new: here.new.saturating_add(1),
+            old: here.old.saturating_add(1),
+        };
     }
     true
 }

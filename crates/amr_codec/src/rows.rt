@@ -40,6 +40,7 @@ pub(crate) fn put_row(
         }
         put_masses(mass_width, masses, out)?;
         first += masses.len() as u32;
+        here = here.saturating_add(1);
     }
     Ok(())
 }

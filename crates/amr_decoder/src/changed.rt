@@ -53,6 +53,7 @@ fn copy_row(
                 let count = span.len().min((columns - first) as usize);
                 masses.extend_from_slice(&span[..count])?;
                 first += count as u32;
+                here = here.saturating_add(1);
             }
         }
     }

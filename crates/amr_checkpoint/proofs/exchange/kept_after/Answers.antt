@@ -24,5 +24,5 @@ pub exchange-requires-clause-rows : goal.exchange-requires-clause-rows
 exchange-requires-clause-rows c =
     (subst (λ (o : Option Mesh). FitsPlace c.args.mesh.now o (Older c.in-Older.rows)) c.in-Some.is (subst (FitsPlace c.args.mesh.now c.args.old) c.in-Older.is c.requires.fits)).0
 
-pub returns-clause-latest : goal.returns-clause-latest
-returns-clause-latest c = (ap is_kept c.in-Older.is, c.exchange.ensures.state, c.exchange.ensures.whole)
+pub returns-in-Some-clause-latest : goal.returns-in-Some-clause-latest
+returns-in-Some-clause-latest c = (ap is_kept c.in-Older.is, c.exchange.ensures.state, c.exchange.ensures.whole)
