@@ -16,21 +16,46 @@ from .pictures import LEVEL_COLOURS, averaged, sizes
 from .plots import Box, Level, Plot, finest_masses, level_masses
 
 
+def differences_of_all(a: list[Plot], b: list[Plot]) -> Iterator[str]:
+    """A line for each thing in which the plots of all species differ; none where they have the same bytes."""
+    if (a[0].species is None) != (b[0].species is None) or len(a) != len(b):
+        yield f"species: {how_many(a)} and {how_many(b)}"
+    # what belongs to all species is told once
+    told: set[str] = set()
+    for ours, theirs in zip(a, b):
+        head = "" if ours.species is None or theirs.species is None else f"species {ours.species}, "
+        for of_all, line in lines_of(ours, theirs):
+            if not of_all:
+                yield head + line
+            elif line not in told:
+                told.add(line)
+                yield line
+
+
+def how_many(plots: list[Plot]) -> str:
+    return "none by number" if plots[0].species is None else str(len(plots))
+
+
 def differences(a: Plot, b: Plot) -> Iterator[str]:
-    """A line for each thing in which two plots differ, B less A; none where they have the same bytes."""
+    """A line for each thing in which two plots of one species differ, B less A."""
+    return (line for _, line in lines_of(a, b))
+
+
+def lines_of(a: Plot, b: Plot) -> Iterator[tuple[bool, str]]:
+    """A line for each thing in which two plots differ, and whether that belongs to all species."""
     if a.name != b.name:
-        yield f"name: {a.name} and {b.name}"
+        yield True, f"name: {a.name} and {b.name}"
     if a.step != b.step:
-        yield f"step: {a.step} and {b.step}"
-    yield from of_ledgers(a, b)
+        yield True, f"step: {a.step} and {b.step}"
+    yield from ((False, line) for line in of_ledgers(a, b))
     if not are_comparable(a, b):
-        yield f"domain: {a.columns} by {a.rows} and {b.columns} by {b.rows} cells at level 0"
+        yield True, f"domain: {a.columns} by {a.rows} and {b.columns} by {b.rows} cells at level 0"
         return
     for number in range(max(len(a.levels), len(b.levels))):
         both = [plot.levels[number] if number < len(plot.levels) else Level(number, []) for plot in (a, b)]
-        yield from of_boxes(*both)
+        yield from ((True, line) for line in of_boxes(*both))
         if min(len(a.levels), len(b.levels)) > number:
-            yield from of_cells(number, level_masses(a, number), level_masses(b, number))
+            yield from ((False, line) for line in of_cells(number, level_masses(a, number), level_masses(b, number)))
 
 
 def are_comparable(a: Plot, b: Plot) -> bool:
@@ -108,9 +133,7 @@ def draw(a: Plot, b: Plot, boxes: bool = True) -> Figure:
     )
     bar = figure.colorbar(image, cax=axes.inset_axes([1.02, 0, 0.03, 1]))
     bar.set_label("B less A, as mass in a cell of level 0")
-    one = f"{a.name}, step {a.step}"
-    other = f"{b.name}, step {b.step}"
-    figure.suptitle(f"{other}, less {one}" if one != other else f"{one}: B less A")
+    figure.suptitle(f"{b.title}, less {a.title}" if a.title != b.title else f"{a.title}: B less A")
     if boxes:
         draw_boxes(axes, a, b)
     axes.set_xlim(0, a.columns)

@@ -17,13 +17,13 @@ from matplotlib.backends.backend_agg import FigureCanvasAgg
 from PIL import Image
 
 from .pictures import Style, draw
-from .plots import Plot, PlotFault, finest_masses, parse_plot
-from .words import Refusal
+from .plots import Plot, PlotFault, finest_masses, parse_plots
+from .words import Refusal, of_species
 
 PROGRAM = Path(__file__).resolve().parents[2] / "amr"
 STEPS = re.compile(r"^[ \t]*steps[ \t]*=[ \t]*[0-9_]+", re.MULTILINE)
-# what the program says of words that are none of its own
-USAGE = 2
+# what the program says of words that are none of its own, and of a store that it can't keep the run in
+USAGE, STORE = 2, 7
 # a checkpoint at the step that a run goes to, and at no other of a movie's
 AT_ITS_END = "4096"
 
@@ -42,40 +42,40 @@ def steps_of(path: Path) -> tuple[str, int]:
     return text, steps
 
 
-def plot_after(program: str, text: str, words: list[str], folder: str | None = None) -> Plot | None:
-    """The plot that the program writes, run in a folder; None where it takes no such words."""
+def plots_after(program: str, text: str, words: list[str], folder: str | None = None) -> list[Plot] | None:
+    """The plot of each species that the program writes, run in a folder; None where it takes no such words."""
     try:
         done = subprocess.run([program, "run", *words], input=text.encode(), capture_output=True, cwd=folder)
     except OSError as fault:
         raise Refusal(f"{program}: {fault.strerror}") from None
-    if done.returncode == USAGE and words:
+    if done.returncode in (USAGE, STORE) and words:
         return None
     if done.returncode:
         said = done.stderr.decode(errors="replace").strip().splitlines()
         raise Refusal(said[-1] if said else f"{program}: status {done.returncode}")
     try:
-        return parse_plot(done.stdout.decode("latin-1"))
+        return parse_plots(done.stdout.decode("latin-1"))
     except PlotFault as fault:
         raise Refusal(f"{program}: {fault}") from None
 
 
-def plot_of_step(program: str, text: str, k: int, folder: str) -> Plot | None:
-    """The plot of a step.
+def plots_of_step(program: str, text: str, k: int, folder: str) -> list[Plot] | None:
+    """The plot of each species after a step.
 
-    The run goes on from the checkpoint of the last one, in the store of a folder, where the program keeps checkpoints. Else it
+    The run goes on from the checkpoint of the last one, in the store of a folder, where the program keeps checkpoints of it. Else it
     starts anew, by `--to` where the program has it. Else it is that of the problem with fewer steps, which is the same state,
     since nothing of a step depends on how many follow it.
     """
     to = ["--to", str(k)]
     return (
-        plot_after(program, text, [*to, "--keep", AT_ITS_END], folder)
-        or plot_after(program, text, to)
-        or plot_after(program, STEPS.sub(f"steps = {k}", text, count=1), [])
+        plots_after(program, text, [*to, "--keep", AT_ITS_END], folder)
+        or plots_after(program, text, to)
+        or plots_after(program, STEPS.sub(f"steps = {k}", text, count=1), [])
     )
 
 
-def plots_of_run(program: str, path: Path, every: int) -> list[Plot]:
-    """The plots of the steps 0, `every`, twice `every` and so on, and of the last step. Each is a run of its own."""
+def plots_of_run(program: str, path: Path, every: int, species: int = 0) -> list[Plot]:
+    """A species' plots of the steps 0, `every`, twice `every` and so on, and of the last step. Each is a run of its own."""
     text, steps = steps_of(path)
     if "/" in program:
         program = str(Path(program).resolve())
@@ -83,10 +83,10 @@ def plots_of_run(program: str, path: Path, every: int) -> list[Plot]:
     plots = []
     with tempfile.TemporaryDirectory() as folder:
         for k in progress(wanted):
-            plot = plot_of_step(program, text, k, folder)
-            if plot is None or plot.step != k:
+            found = plots_of_step(program, text, k, folder)
+            if found is None or found[0].step != k:
                 raise Refusal(f"{program}: no plot of step {k}")
-            plots.append(plot)
+            plots.append(of_species(found, species))
     return plots
 
 

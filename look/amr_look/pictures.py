@@ -76,7 +76,7 @@ def draw(plot: Plot, style: Style) -> Figure:
     else:
         figure, above = pyplot.subplots(figsize=(width + 1.2, height + 1.3), layout="compressed")
         figure.supxlabel(still, fontsize="medium")
-    figure.suptitle(f"{plot.name}, step {plot.step}" if style.title is None else style.title)
+    figure.suptitle(plot.title if style.title is None else style.title)
     draw_masses(figure, above, plot, style, long)
     return figure
 

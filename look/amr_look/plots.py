@@ -1,4 +1,5 @@
-"""The plot of a state, read by the lines that docs/FORMATS.md names and by nothing else."""
+"""The plot of a state, read by the lines that docs/FORMATS.md names and by nothing else. A state of several species is read as
+a plot of each: they have the same boxes."""
 
 from __future__ import annotations
 
@@ -54,12 +55,19 @@ class Level:
 
 @dataclass(frozen=True)
 class Plot:
-    """A state of a run. `ledger[k]` is the mass of level 0 after step k, and what flowed in and out in that step."""
+    """A species' state in a run. `ledger[k]` is the mass of level 0 after step k, and what flowed in and out in that step.
+    `species` is the number of the species, from 0, where the plot names species."""
 
     name: str
     step: int
     ledger: numpy.ndarray
     levels: list[Level]
+    species: int | None = None
+
+    @property
+    def title(self) -> str:
+        """The name, the step, and the species where there is one by number."""
+        return f"{self.name}, step {self.step}" + ("" if self.species is None else f", species {self.species}")
 
     @property
     def columns(self) -> int:
@@ -90,6 +98,10 @@ class Lines:
     def fault(self, what: str) -> PlotFault:
         return PlotFault(self.taken, what)
 
+    def next_is(self, head: str) -> bool:
+        """Whether the next line, if there is one, begins so."""
+        return self.taken < len(self.lines) and self.lines[self.taken].startswith(head)
+
     def number_line(self, word: str, names: str) -> list[int]:
         """The numbers of a line `WORD A B ..`, as many as there are names."""
         wanted = f"`{word} {names}`"
@@ -113,20 +125,26 @@ def shown(line: str) -> str:
     return line if len(line) <= 60 else line[:57] + "..."
 
 
-def parse_plot(text: str) -> Plot:
-    """The plot that a text is; a PlotFault where it is none."""
+def parse_plots(text: str) -> list[Plot]:
+    """The plot of each species in a text, one where it names none; a PlotFault where the text is no plot."""
     lines = Lines(text)
     first = lines.take("`amr-plot 1`")
-    if first != "amr-plot 1":
-        raise lines.fault(f"`{shown(first)}` is not `amr-plot 1`")
+    if first not in ("amr-plot 1", "amr-plot 2"):
+        raise lines.fault(f"`{shown(first)}` is neither `amr-plot 1` nor `amr-plot 2`")
+    named = first == "amr-plot 2"
     word, _, name = lines.take("`name NAME`").partition(" ")
     if word != "name" or not NAME.fullmatch(name):
         raise lines.fault("no line `name NAME`, the name 1 to 32 of a to z, 0 to 9, - and _")
     (step,) = lines.number_line("step", "N")
-    ledger = parse_ledger(lines, step)
-    levels = parse_levels(lines)
+    ledgers = parse_named_ledgers(lines, step) if named else [parse_ledger(lines, step)]
+    levels = parse_levels(lines, len(ledgers), named)
     lines.end()
-    return Plot(name, step, ledger, levels)
+    return [Plot(name, step, ledger, levels[s], s if named else None) for s, ledger in enumerate(ledgers)]
+
+
+def parse_plot(text: str, species: int = 0) -> Plot:
+    """The plot of one species of a text; a PlotFault where the text is no plot."""
+    return parse_plots(text)[species]
 
 
 def parse_ledger(lines: Lines, step: int) -> numpy.ndarray:
@@ -139,25 +157,52 @@ def parse_ledger(lines: Lines, step: int) -> numpy.ndarray:
     return numpy.array(rows, dtype=numpy.int64)
 
 
-def parse_levels(lines: Lines) -> list[Level]:
-    """The levels up to `end`, of which there is at least one."""
-    levels: list[Level] = []
+def parse_named_ledgers(lines: Lines, step: int) -> list[numpy.ndarray]:
+    """The ledger of each species. The rows of step 0 tell how many there are."""
+    rows: list[list[list[int]]] = []
+    for k in range(step + 1):
+        row: list[list[int]] = []
+        while lines.next_is("ledger 0 ") if k == 0 and row else len(row) < max(len(rows[0]) if rows else 0, 1):
+            number, species, *entries = lines.number_line("ledger", "K S MASS IN OUT")
+            if (number, species) != (k, len(row)):
+                raise lines.fault(f"the ledger's row {number} of species {species} stands where row {k} of species {len(row)} should")
+            row.append(entries)
+        rows.append(row)
+    return list(numpy.array(rows, dtype=numpy.int64).transpose(1, 0, 2))
+
+
+def parse_levels(lines: Lines, species: int, named: bool) -> list[list[Level]]:
+    """Of each species the levels up to `end`, of which there is at least one."""
+    levels: list[list[Level]] = [[] for _ in range(species)]
     while True:
-        wanted = "`level L BOXES` or `end`" if levels else "`level 0 BOXES`"
+        count_so_far = len(levels[0])
+        wanted = "`level L BOXES` or `end`" if count_so_far else "`level 0 BOXES`"
         line = lines.take(wanted)
-        if line == "end" and levels:
+        if line == "end" and count_so_far:
             return levels
         lines.taken -= 1
         number, count = lines.number_line("level", "L BOXES")
-        if number != len(levels):
-            raise lines.fault(f"level {number} stands where level {len(levels)} should")
-        levels.append(Level(number, [parse_box(lines) for _ in range(count)]))
+        if number != count_so_far:
+            raise lines.fault(f"level {number} stands where level {count_so_far} should")
+        boxes = [parse_box(lines, species, named) for _ in range(count)]
+        for s, own in enumerate(levels):
+            own.append(Level(number, [box[s] for box in boxes]))
 
 
-def parse_box(lines: Lines) -> Box:
+def parse_box(lines: Lines, species: int, named: bool) -> list[Box]:
+    """A box with the masses of each species."""
     x0, y0, x1, y1 = lines.number_line("box", "X0 Y0 X1 Y1")
     if x1 < x0 or y1 < y0:
         raise lines.fault(f"the box ({x0}, {y0}) to ({x1}, {y1}) has its corners out of order")
+    boxes = []
+    for s in range(species):
+        if named and lines.number_line("species", "S") != [s]:
+            raise lines.fault(f"another species stands where species {s} should")
+        boxes.append(parse_rows(lines, x0, y0, x1, y1))
+    return boxes
+
+
+def parse_rows(lines: Lines, x0: int, y0: int, x1: int, y1: int) -> Box:
     rows = []
     for y in range(y0, y1 + 1):
         line = lines.take(f"row {y} of the box ({x0}, {y0}) to ({x1}, {y1})")
@@ -170,11 +215,16 @@ def parse_box(lines: Lines) -> Box:
     return Box(x0, y0, x1, y1, numpy.array(rows, dtype=numpy.int64))
 
 
-def read_plot(path: str | Path) -> Plot:
-    """The plot in a file, or on standard input where the path is `-`."""
+def read_plots(path: str | Path) -> list[Plot]:
+    """The plot of each species in a file, or on standard input where the path is `-`."""
     data = sys.stdin.buffer.read() if str(path) == "-" else Path(path).read_bytes()
     # every byte stands for one character, so that a byte that no plot has is told by its line
-    return parse_plot(data.decode("latin-1"))
+    return parse_plots(data.decode("latin-1"))
+
+
+def read_plot(path: str | Path, species: int = 0) -> Plot:
+    """The plot of one species in a file."""
+    return read_plots(path)[species]
 
 
 def finest_masses(plot: Plot) -> numpy.ndarray:

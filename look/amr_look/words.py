@@ -7,7 +7,7 @@ from argparse import ArgumentParser, Namespace
 from collections.abc import Callable
 from pathlib import Path
 
-from .plots import Plot, PlotFault, read_plot
+from .plots import Plot, PlotFault, read_plots
 
 PICTURES = (".png", ".svg", ".pdf")
 
@@ -16,15 +16,27 @@ class Refusal(Exception):
     """One line on what went wrong."""
 
 
-def read(path: str) -> Plot:
-    """The plot of a file or of standard input, or a refusal that says where it is none."""
+def read(path: str) -> list[Plot]:
+    """The plot of each species in a file or on standard input, or a refusal that says where it is none."""
     where = "standard input" if path == "-" else path
     try:
-        return read_plot(path)
+        return read_plots(path)
     except PlotFault as fault:
         raise Refusal(f"{where}: {fault}") from None
     except OSError as fault:
         raise Refusal(f"{where}: {fault.strerror}") from None
+
+
+def of_species(plots: list[Plot], species: int) -> Plot:
+    """The plot of one species, or a refusal where there is no such species."""
+    if not 0 <= species < len(plots):
+        raise Refusal(f"no species {species}: the plot has " + ("species 0 alone" if len(plots) == 1 else f"species 0 to {len(plots) - 1}"))
+    return plots[species]
+
+
+def with_species(parser: ArgumentParser, absent: str) -> None:
+    """The word for one species, and what stands where it is absent."""
+    parser.add_argument("--species", type=int, metavar="S", help=f"the masses of this species (default: {absent})")
 
 
 def with_plot(parser: ArgumentParser) -> None:

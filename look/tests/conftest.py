@@ -23,3 +23,23 @@ def plot_file(request) -> Path:
 @pytest.fixture
 def disc() -> Path:
     return EXAMPLES / "3_disc.plot"
+
+
+# two species of a ring, one step after the start
+TWO = """amr-plot 2
+name ring
+step 1
+ledger 0 0 8 0 0
+ledger 0 1 7 0 0
+ledger 1 0 8 0 0
+ledger 1 1 7 0 0
+level 0 1
+box 0 0 3 1
+species 0
+4 4 0 0
+0 0 0 0
+species 1
+0 4 3 0
+0 0 0 0
+end
+"""

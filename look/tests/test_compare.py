@@ -4,9 +4,9 @@ import subprocess
 import sys
 
 import pytest
-from conftest import EXAMPLES, LOOK
+from conftest import EXAMPLES, LOOK, TWO
 
-from amr_look import compare, parse_plot, read_plot
+from amr_look import compare, parse_plot, parse_plots, read_plot, read_plots
 
 RING = """amr-plot 1
 name ring
@@ -34,7 +34,7 @@ def run(*words) -> tuple[int, str, str]:
 
 
 def test_a_plot_does_not_differ_from_itself(plot_file):
-    assert list(compare.differences(read_plot(plot_file), read_plot(plot_file))) == []
+    assert list(compare.differences_of_all(read_plots(plot_file), read_plots(plot_file))) == []
 
 
 CHANGES = {
@@ -66,6 +66,30 @@ def test_a_level_that_one_lacks_is_told():
     fewer = RING[: RING.index("level 1")] + "end\n"
     told = list(compare.differences(parse_plot(fewer), parse_plot(RING)))
     assert told == ["level 1: 2 of the boxes are in B alone, the first (0, 0) to (1, 1)"]
+
+
+SPECIES_CHANGES = {
+    "cells of one": ("0 4 3 0", "0 4 2 1", ["species 1, level 0: 2 of 8 cells differ, most at (2, 0) by -1, in all by +0"]),
+    "the ledger of one": ("ledger 1 1 7 0 0", "ledger 1 1 6 0 1", ["species 1, ledger: 1 of 2 rows differ, the first of step 1: 7 0 0 and 6 0 1"]),
+    "the name of all": ("name ring", "name rang", ["name: ring and rang"]),
+}
+
+
+@pytest.mark.parametrize("change", SPECIES_CHANGES)
+def test_each_difference_of_species_is_told_once(change):
+    old, new, told = SPECIES_CHANGES[change]
+    assert TWO.count(old) == 1
+    assert list(compare.differences_of_all(parse_plots(TWO), parse_plots(TWO.replace(old, new)))) == told
+
+
+def test_how_many_species_there_are_is_told(tmp_path):
+    assert list(compare.differences_of_all(parse_plots(RING), parse_plots(TWO)))[0] == "species: none by number and 2"
+    for name, text in (("two", TWO), ("other", TWO.replace("0 4 3 0", "0 4 2 1"))):
+        (tmp_path / name).write_text(text)
+    two, other = tmp_path / "two", tmp_path / "other"
+    assert run(two, other, "--species", 0) == (0, "no difference\n", "")
+    assert run(two, other, "--species", 1)[:2] == (1, "level 0: 2 of 8 cells differ, most at (2, 0) by -1, in all by +0\n")
+    assert run(two, other, "--species", 2) == (2, "", "amr-compare: no species 2: the plot has species 0 to 1\n")
 
 
 def test_the_difference_on_one_grid_has_the_mass_of_the_difference():

@@ -5,11 +5,11 @@ import sys
 
 import numpy
 import pytest
-from conftest import EXAMPLES, LOOK, PLOTS
+from conftest import EXAMPLES, LOOK, PLOTS, TWO
 from matplotlib import image, pyplot
 from matplotlib.text import Text
 
-from amr_look import pictures, read_plot
+from amr_look import parse_plots, pictures, read_plot
 
 
 def look(*words: str, stdin: bytes = b"") -> subprocess.CompletedProcess:
@@ -180,3 +180,17 @@ def test_what_goes_wrong_is_one_line(case, tmp_path):
 def test_a_kind_of_file_that_is_none_is_refused(disc):
     done = look(disc, "-o", "disc.gif")
     assert (done.returncode, done.stderr) == (1, b"amr-look: disc.gif: the name ends in none of .png, .svg and .pdf\n")
+
+
+def test_one_species_is_drawn(tmp_path):
+    picture = tmp_path / "picture.png"
+    assert look("-o", picture, "--species", 1, stdin=TWO.encode()).returncode == 0
+    figure = pictures.draw(parse_plots(TWO)[1], pictures.Style())
+    try:
+        assert {"ring, step 1, species 1", "mass 7 after step 1: nothing flowed in or out"} <= set(texts_of(figure))
+    finally:
+        pyplot.close(figure)
+    done = look("-o", picture, "--species", 2, stdin=TWO.encode())
+    assert (done.returncode, done.stderr) == (1, b"amr-look: no species 2: the plot has species 0 to 1\n")
+    done = look("-o", picture, "--species", 1, EXAMPLES / "1_ring.plot")
+    assert (done.returncode, done.stderr) == (1, b"amr-look: no species 1: the plot has species 0 alone\n")

@@ -3,8 +3,9 @@
 import re
 
 import pytest
+from conftest import TWO
 
-from amr_look import Plot, PlotFault, finest_masses, parse_plot, read_plot
+from amr_look import Plot, PlotFault, finest_masses, parse_plot, parse_plots, read_plot, read_plots
 
 RING = """amr-plot 1
 name ring
@@ -19,20 +20,35 @@ end
 """
 
 
-def written(plot: Plot) -> str:
+def written(plots: list[Plot]) -> str:
     """The text of a plot, by docs/FORMATS.md."""
-    lines = ["amr-plot 1", f"name {plot.name}", f"step {plot.step}"]
-    lines += [f"ledger {k} {mass} {inflow} {outflow}" for k, (mass, inflow, outflow) in enumerate(plot.ledger)]
-    for level in plot.levels:
+    first = plots[0]
+    named = first.species is not None
+    lines = [f"amr-plot {2 if named else 1}", f"name {first.name}", f"step {first.step}"]
+    for k in range(first.step + 1):
+        lines += [" ".join(map(str, ["ledger", k, *([plot.species] if named else []), *plot.ledger[k]])) for plot in plots]
+    for level in first.levels:
         lines.append(f"level {level.number} {len(level.boxes)}")
-        for box in level.boxes:
+        for number, box in enumerate(level.boxes):
             lines.append(f"box {box.x0} {box.y0} {box.x1} {box.y1}")
-            lines += [" ".join(str(mass) for mass in row) for row in box.masses]
+            for plot in plots:
+                lines += [f"species {plot.species}"] if named else []
+                lines += [" ".join(map(str, row)) for row in plot.levels[level.number].boxes[number].masses]
     return "\n".join(lines + ["end", ""])
 
 
 def test_a_plot_is_read_exactly(plot_file):
-    assert written(read_plot(plot_file)) == plot_file.read_text()
+    assert written(read_plots(plot_file)) == plot_file.read_text()
+
+
+def test_two_species_are_read_exactly():
+    plots = parse_plots(TWO)
+    assert written(plots) == TWO
+    assert [plot.species for plot in plots] == [0, 1]
+    assert [plot.ledger.tolist() for plot in plots] == [[[8, 0, 0], [8, 0, 0]], [[7, 0, 0], [7, 0, 0]]]
+    assert parse_plot(TWO, 1).levels[0].boxes[0].masses.tolist() == [[0, 4, 3, 0], [0, 0, 0, 0]]
+    one = TWO.replace("ledger 0 1 7 0 0\n", "").replace("ledger 1 1 7 0 0\n", "").replace("species 1\n0 4 3 0\n0 0 0 0\n", "")
+    assert written(parse_plots(one)) == one
 
 
 def test_the_worked_ring():
@@ -46,11 +62,11 @@ def test_the_worked_ring():
 
 
 def test_the_finest_masses_add_up_to_the_ledger(plot_file):
-    plot = read_plot(plot_file)
-    cells = 4 ** (len(plot.levels) - 1)
-    total = int(finest_masses(plot).sum())
-    assert total % cells == 0
-    assert total // cells == plot.ledger[-1][0]
+    for plot in read_plots(plot_file):
+        cells = 4 ** (len(plot.levels) - 1)
+        total = int(finest_masses(plot).sum())
+        assert total % cells == 0
+        assert total // cells == plot.ledger[-1][0]
 
 
 def test_the_finest_mass_of_each_place_is_that_of_the_finest_box(disc):
@@ -76,7 +92,8 @@ def test_the_stored_plots_have_what_they_are_there_for():
 
 
 FAULTS = {
-    "another first line": (("amr-plot 1", "amr-plot 2"), 1),
+    "another first line": (("amr-plot 1", "amr-plot 3"), 1),
+    "a ledger without species": (("amr-plot 1", "amr-plot 2"), 4),
     "a name with a letter that none has": (("name ring", "name Ring"), 2),
     "a name too long": (("name ring", "name " + "a" * 33), 2),
     "a number with a leading zero": (("step 1", "step 01"), 3),
@@ -107,10 +124,33 @@ def test_a_fault_is_told_by_its_line(fault):
     assert re.fullmatch(rf"line {line}: [^\n]+", str(told.value))
 
 
+SPECIES_FAULTS = {
+    "no species named": (("amr-plot 2", "amr-plot 1"), 4),
+    "another species first": (("ledger 0 0 8", "ledger 0 1 8"), 4),
+    "a species twice": (("ledger 0 1 7", "ledger 0 0 7"), 5),
+    "a later row of one species alone": (("ledger 1 1 7 0 0\n", ""), 7),
+    "a species more in a later row": (("level 0 1\n", "ledger 1 2 9 0 0\nlevel 0 1\n"), 8),
+    "species in another order": (("ledger 1 0 8 0 0\nledger 1 1 7", "ledger 1 1 7 0 0\nledger 1 0 8"), 6),
+    "rows without a species": (("species 0\n", ""), 10),
+    "rows of another species": (("species 1\n", "species 0\n"), 13),
+    "rows of a species left out": (("species 1\n0 4 3 0\n0 0 0 0\n", ""), 13),
+}
+
+
+@pytest.mark.parametrize("fault", SPECIES_FAULTS)
+def test_a_fault_of_species_is_told_by_its_line(fault):
+    (old, new), line = SPECIES_FAULTS[fault]
+    assert TWO.count(old) == 1
+    with pytest.raises(PlotFault) as told:
+        parse_plots(TWO.replace(old, new))
+    assert told.value.line == line
+
+
 def test_a_plot_that_is_cut_off_anywhere_is_refused():
-    for end in range(len(RING)):
-        with pytest.raises(PlotFault):
-            parse_plot(RING[:end])
+    for text in (RING, TWO):
+        for end in range(len(text)):
+            with pytest.raises(PlotFault):
+                parse_plots(text[:end])
 
 
 def test_bytes_that_are_no_text_are_told_by_their_line(tmp_path):

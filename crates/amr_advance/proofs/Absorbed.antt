@@ -10,7 +10,7 @@ use Rattle.amr_flows.proofs.RegisterFlowsSigns.{register_cells_rise}
 use Rattle.amr_flows.proofs.SubcycleSizes.{within_from}
 use Rattle.amr_register.specs.declared.register.Register.{Register}
 use Rattle.amr_register.specs.Entries.{AreRising}
-use Rattle.amr_register.specs.Registers.{IsRegisterOf, SameCells, cells_in, entry_in}
+use Rattle.amr_register.specs.Fields.{IsRegisterOf, SameCells, cells_in, entry_in}
 use Rattle.amr_register.proofs.Refluxes.{apart_places}
 use Rattle.amr_register.proofs.Taken.{same_at}
 use Rattle.amr_register.proofs.SameCells.{same_itself, same_twice}

@@ -25,7 +25,7 @@ use Rattle.amr_flows.proofs.RegisterFlows.{words_are_of_children}
 use Rattle.amr_flows.proofs.SubcycleSizes.{children_size}
 use Rattle.amr_register.specs.declared.register.Register.{Register}
 use Rattle.amr_register.specs.RegisterCells.{register_cells}
-use Rattle.amr_register.specs.Registers.{cells_in, entry_in}
+use Rattle.amr_register.specs.Fields.{cells_in, entry_in}
 use Rattle.amr_advance.specs.Registers.{BothChange, Changes, HasCoarser, cells_of, gained}
 use Rattle.amr_advance.specs.Totals.{HasTotals, HasAbsorbed, MayAbsorb, SomeHasAbsorbed, SomeMayAbsorb}
 

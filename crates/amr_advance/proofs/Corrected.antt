@@ -18,7 +18,7 @@ use Rattle.amr_patch.proofs.LevelLaws.{all_kept}
 use Rattle.amr_patch.proofs.Lookups.{same_default}
 use Rattle.amr_register.specs.declared.register.Register.{Register}
 use Rattle.amr_register.specs.Entries.{with_entries}
-use Rattle.amr_register.specs.Registers.{cells_in, entry_in}
+use Rattle.amr_register.specs.Fields.{cells_in, entry_in}
 use Rattle.amr_transfer.specs.Sums.{summed}
 use Rattle.amr_transfer.proofs.Halves.{parent_child}
 use Rattle.amr_transfer.proofs.PatchLists.{mass_there}

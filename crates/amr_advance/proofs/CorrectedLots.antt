@@ -15,7 +15,7 @@ use Rattle.amr_patch.specs.declared.patches.Patch.{Patch}
 use Rattle.amr_patch.specs.Orders.{IsOrderOf}
 use Rattle.amr_patch.specs.Patches.{ArePatchesApart, box, masses_in}
 use Rattle.amr_patch.proofs.SameBoxes.{apart_alike}
-use Rattle.amr_register.specs.Registers.{HasEdgesOf, IsBoxAt, IsPlaced, entry_in}
+use Rattle.amr_register.specs.Fields.{HasEdgesOf, IsBoxAt, IsPlaced, entry_in}
 use Rattle.amr_register.specs.declared.register.Register.{Register}
 use Rattle.amr_transfer.specs.Sums.{AreCoarsenable}
 use Rattle.amr_lots.specs.declared.lot.Correction.{Correction}

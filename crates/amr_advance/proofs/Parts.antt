@@ -28,7 +28,7 @@ use Rattle.amr_register.specs.declared.register.Register.{Register}
 use Rattle.amr_register.specs.declared.edges.EdgeCell.{EdgeCell}
 use Rattle.amr_register.specs.CoarseFlows.{edge_flows}
 use Rattle.amr_register.specs.EdgeCells.{AreEdges, AreEdgesIn, IsSameEdge, IsSmallNet, SameEdges, lists_of}
-use Rattle.amr_register.specs.Registers.{HasEdgesOf, IsRegisterOf, SameCells, edges_in, entry_in}
+use Rattle.amr_register.specs.Fields.{HasEdgesOf, IsRegisterOf, SameCells, edges_in, entry_in}
 use Rattle.amr_register.proofs.SameCells.{put_back, register_kept, same_itself, same_twice}
 use Rattle.amr_layout.specs.Surroundings.{around, finer_masses}
 use Rattle.amr_advance.specs.Registers.{AreEdgesFor, AreNetsOf, BothAreWithEdges, BothChange, BothHaveTakenNets, HasEdges, MayTakeNets, edges_of, taken}

@@ -13,7 +13,7 @@ use Rattle.amr_patch.specs.Levels.{level_of, patches_of}
 use Rattle.amr_patch.specs.Patches.{box}
 use Rattle.amr_register.specs.declared.register.Register.{Register}
 use Rattle.amr_register.specs.Entries.{with_entries}
-use Rattle.amr_register.specs.Registers.{HasEdgesOf, IsPlaced, cells_in, entry_in}
+use Rattle.amr_register.specs.Fields.{HasEdgesOf, IsPlaced, cells_in, entry_in}
 use Rattle.amr_transfer.specs.Sums.{AreCoarsenable, summed}
 
 -- a share of what corrects a level, for patches from this number on

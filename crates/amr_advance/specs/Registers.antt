@@ -16,7 +16,7 @@ use Rattle.amr_register.specs.declared.register.Register.{Register}
 use Rattle.amr_register.specs.declared.edges.EdgeCell.{EdgeCell}
 use Rattle.amr_register.specs.CoarseFlows.{edge_flows}
 use Rattle.amr_register.specs.EdgeCells.{AreEdges, AreEdgesIn, IsSmallNet}
-use Rattle.amr_register.specs.Registers.{IsPlaced, IsRegisterOf, IsWithEdges, SameCells, cells_in, edges_in, entry_in}
+use Rattle.amr_register.specs.Fields.{IsPlaced, IsRegisterOf, IsWithEdges, SameCells, cells_in, edges_in, entry_in}
 use Rattle.amr_flows.specs.Words.{child_flows}
 
 -- ---- before

@@ -25,7 +25,7 @@ use Rattle.amr_lots.specs.Lots.{IsStepped, LevelStepFits}
 use Rattle.amr_register.specs.declared.edges.EdgeCell.{EdgeCell}
 use Rattle.amr_register.specs.declared.register.Register.{Register}
 use Rattle.amr_register.specs.EdgeCells.{IsSmallNet, SameEdges}
-use Rattle.amr_register.specs.Registers.{HasEdgesOf}
+use Rattle.amr_register.specs.Fields.{HasEdgesOf}
 use Rattle.amr_advance.specs.declared.kept.KeptLayout.{KeptLayout}
 use Rattle.amr_advance.specs.declared.level.StepInput.{StepInput}
 use Rattle.amr_advance.specs.declared.lots.Lots.{Lots}

@@ -9,7 +9,7 @@ use Rattle.amr_patch.specs.declared.patches.Patch.{Patch}
 use Rattle.amr_flows.specs.Laws.{ArePatchesOf, plain_size}
 use Rattle.amr_flows.specs.Words.{level_total}
 use Rattle.amr_register.specs.declared.register.Register.{Register}
-use Rattle.amr_register.specs.Registers.{IsRegisterOf, SameCells, cells_in, entry_in}
+use Rattle.amr_register.specs.Fields.{IsRegisterOf, SameCells, cells_in, entry_in}
 
 -- each word has what the patches of a level add to it: of masses m, with the coarser masses `old` and the finer ones `fine`
 pub record HasTotals (p : Problem) (l : ℕ) (m old fine : Masses) (cells : List Cell) (ws : List ℕ) : Type 0 where

@@ -13,7 +13,7 @@ ghost use Rattle.amr_lots.specs.declared.lot.Duty.TheVariants.{Correct};
 ghost use Rattle.amr_lots.specs.declared.lot.Lot.{Lot as lot};
 ghost use Rattle.amr_patch.specs.Levels.{level_of, patches_of};
 ghost use Rattle.amr_patch.specs.Patches.{ArePatchesApart, box, masses_in};
-ghost use Rattle.amr_register.specs.Registers.{HasEdgesOf, IsPlaced};
+ghost use Rattle.amr_register.specs.Fields.{HasEdgesOf, IsPlaced};
 ghost use Rattle.amr_transfer.specs.Sums.{AreCoarsenable};
 ghost use Rattle.amr_advance.specs.Correction.{IsCorrectedLevel, IsLentPart, IsPartFrom, IsTriedLevel, KeepsAllButCorrection, MayCorrectLevel};
 ghost use Rattle.amr_advance.specs.Crews.{MayRun};

@@ -11,7 +11,7 @@ ghost use Rattle.amr_def.specs.State.{Masses};
 ghost use Rattle.amr_ghost.specs.Frames.{old_masses};
 ghost use Rattle.amr_patch.specs.Patches.{box, masses_in};
 ghost use Rattle.amr_register.specs.EdgeCells.{IsSmallNet, SameEdges, lists_of};
-ghost use Rattle.amr_register.specs.Registers.{IsRegisterOf, SameCells, cells_in, entry_in};
+ghost use Rattle.amr_register.specs.Fields.{IsRegisterOf, SameCells, cells_in, entry_in};
 ghost use Rattle.amr_advance.specs.Registers.{AreEdgesFor, AreNetsOf, BothAreWithEdges, BothHaveTakenNets, MayTakeNets, edges_of};
 
 use amr_register::{EdgeCell, Register};

@@ -13,7 +13,6 @@ use Rattle.amr_payload.specs.Delta.{IsLater, delta_bytes, delta_decoded}
 use Rattle.amr_payload.proofs.Deltas.{delta_back}
 use Rattle.amr_store.specs.Phases.{OnlyReads}
 use Rattle.amr_payload.specs.Tests.{decoded}
-use Rattle.amr_problem.specs.Judgement.{IsProblemOf}
 use Rattle.amr_store.specs.declared.part.Part.{Part}
 use Rattle.amr_store.specs.declared.part.Part.TheVariants as part
 use Rattle.amr_store.specs.declared.part.StoreFault.{StoreFault}
@@ -27,7 +26,7 @@ use Rattle.amr_checkpoint.proofs.Causes.{disk_fault_of, other_fault_of}
 use Rattle.amr_checkpoint.specs.declared.latest.StateFault.{StateFault}
 use Rattle.amr_checkpoint.specs.declared.latest.StateFault.TheVariants.{Damaged as damaged, Refused}
 use Rattle.amr_checkpoint.specs.Checkpoints.{IsMeshFor, IsStoreFor, content_at_mesh}
-use Rattle.amr_checkpoint.specs.Contents.{At, Content, Damaged, chain_read, in_sequence, latest_read, mass_width, payload_read, record_read, records_read, room_for, then_on}
+use Rattle.amr_checkpoint.specs.Contents.{At, Content, Damaged, chain_read, in_sequence, latest_read, mass_width, payload_read, record_read, records_read, room_for, then_on, IsStorable}
 use Rattle.amr_checkpoint.specs.declared.faults.CheckpointFault.{CheckpointFault}
 use Rattle.amr_checkpoint.specs.declared.faults.CheckpointFault.TheVariants.{DiskFault}
 use Rattle.amr_checkpoint.specs.Reasons.{fault_of_call}
@@ -299,7 +298,7 @@ last_still old new stays = ap (λ d. last_of d (slots_in new)) stays.same.deltas
 
 pub store_stays : (old new : Store) (p : Problem) → IsStoreFor p old → SameStore old new → is_shut new ≡ false → IsStoreFor p new
 store_stays old new p of same unshut = record {
-  accepted = subst (λ (b : List ℕ). IsProblemOf b p) (sym same.problem) of.accepted;
+  accepted = subst (λ (b : List ℕ). IsStorable b p) (sym same.problem) of.accepted;
   room = same.slot_size ∙ of.room ∙ ap (λ v. room_for v p) (sym same.version);
   unshut = unshut;
 }

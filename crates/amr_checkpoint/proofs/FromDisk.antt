@@ -26,7 +26,7 @@ use Rattle.amr_store.specs.Stored as store
 use Rattle.amr_checkpoint.specs.declared.contents.Checkpoint.{Checkpoint}
 use Rattle.amr_checkpoint.specs.declared.contents.Checkpoint.TheVariants as read
 use Rattle.amr_checkpoint.specs.Checkpoints.{IsFreshStore, IsMeshFor, IsStoreAt, IsStoreFor, IsUsable, content_at_mesh, content_of}
-use Rattle.amr_checkpoint.specs.Contents.{Content, Empty, Damaged, Fresh, StoreHolds, latest_read, mass_width, room_for, store_read}
+use Rattle.amr_checkpoint.specs.Contents.{Content, Empty, Damaged, Fresh, IsStorable, StoreHolds, latest_read, mass_width, room_for, store_read}
 use Rattle.amr_checkpoint.proofs.Making.{store_reads}
 
 -- ---- versions
@@ -48,17 +48,17 @@ decoded_by (Err e) version w p bytes width is_width bytes_are sound = tt
 pub room_of : (s : Store) (held : store.State) (p : Problem) → ShowsState s held → slot_size_in s ≡ room_for (version_in s) p → held.slot_size ≡ room_for held.version p
 room_of s held p shows room = sym shows.slot_size ∙ room ∙ ap (λ (v : ℕ). room_for v p) shows.version
 
-accepted_of : (s : Store) (held : store.State) (p : Problem) (bytes : List ℕ) → ShowsState s held → bytes ≡ problem_in s → IsProblemOf bytes p → IsProblemOf held.problem p
-accepted_of s held p bytes shows bytes_are accepted = subst (λ (b : List ℕ). IsProblemOf b p) (bytes_are ∙ shows.problem) accepted
+accepted_of : (s : Store) (held : store.State) (p : Problem) (bytes : List ℕ) → ShowsState s held → bytes ≡ problem_in s → IsStorable bytes p → IsStorable held.problem p
+accepted_of s held p bytes shows bytes_are accepted = subst (λ (b : List ℕ). IsStorable b p) (bytes_are ∙ shows.problem) accepted
 
-pub store_holds : (s : Store) (stored : store.Stored) (p : Problem) (bytes : List ℕ) (content : Content) → Shows s stored → bytes ≡ problem_in s → IsProblemOf bytes p → slot_size_in s ≡ room_for (version_in s) p
+pub store_holds : (s : Store) (stored : store.Stored) (p : Problem) (bytes : List ℕ) (content : Content) → Shows s stored → bytes ≡ problem_in s → IsStorable bytes p → slot_size_in s ≡ room_for (version_in s) p
     → ((held : store.State) → stored ≡ store.Held held → ShowsState s held → content ≡ latest_read held p held.latest) → StoreHolds stored content
 store_holds s stored p bytes content shows bytes_are accepted room by =
     let held = shows.0 in
     let is : content ≡ store_read held p = by held shows.1 shows.2 ∙ sym (store_reads held p (room_of s held p shows.2 room)) in
     subst (λ (st : store.Stored). StoreHolds st content) (sym shows.1) (inr record { problem = p; accepted = accepted_of s held p bytes shows.2 bytes_are accepted; content_is = is })
 
-pub size_holds : (s : Store) (stored : store.Stored) (p : Problem) (bytes : List ℕ) → Shows s stored → bytes ≡ problem_in s → IsProblemOf bytes p → slot_size_in s ≢ room_for (version_in s) p → StoreHolds stored (Damaged part.Size)
+pub size_holds : (s : Store) (stored : store.Stored) (p : Problem) (bytes : List ℕ) → Shows s stored → bytes ≡ problem_in s → IsStorable bytes p → slot_size_in s ≢ room_for (version_in s) p → StoreHolds stored (Damaged part.Size)
 size_holds s stored p bytes shows bytes_are accepted other =
     let held = shows.0 in
     let differ : held.slot_size ≢ room_for held.version p = λ same. other (shows.2.slot_size ∙ same ∙ ap (λ (v : ℕ). room_for v p) (sym shows.2.version)) in
@@ -82,8 +82,8 @@ shows_of stored found s finds is = subst (λ (f : Found). Finds f stored) is fin
 
 -- ---- going on
 
-same_problem : (kept bytes : List ℕ) (q p : Problem) → kept ≡ bytes → IsProblemOf kept q → IsProblemOf bytes p → q ≡ p
-same_problem kept bytes q p same kept_is given = one_problem bytes q p (subst (λ (b : List ℕ). IsProblemOf b q) same kept_is) given
+same_problem : (kept bytes : List ℕ) (q p : Problem) → kept ≡ bytes → IsStorable kept q → IsProblemOf bytes p → q ≡ p
+same_problem kept bytes q p same kept_is given = one_problem bytes q p (subst (λ (b : List ℕ). IsProblemOf b q) same kept_is.accepted) given
 
 store_for : (s : Store) (q p : Problem) → IsStoreFor q s → q ≡ p → IsStoreFor p s
 store_for s q p of problem = subst (λ (r : Problem). IsStoreFor r s) problem of
@@ -99,15 +99,15 @@ fresh_goes_on found s q kept bytes p is usable kept_is same given =
     )
 
 -- what goes on from a store has bytes that are a problem
-pub fresh_given : (found : Checkpoint) (s : Store) (q : Problem) (kept bytes : List ℕ) → found ≡ read.Fresh s q → IsUsable found → kept ≡ problem_in s → kept ≡ bytes → (p : Problem) × IsProblemOf bytes p
+pub fresh_given : (found : Checkpoint) (s : Store) (q : Problem) (kept bytes : List ℕ) → found ≡ read.Fresh s q → IsUsable found → kept ≡ problem_in s → kept ≡ bytes → (p : Problem) × IsStorable bytes p
 fresh_given found s q kept bytes is usable kept_is same =
     let fresh : IsFreshStore q s = subst IsUsable is usable in
-    (q, subst (λ (b : List ℕ). IsProblemOf b q) (sym kept_is ∙ same) fresh.store_is.accepted)
+    (q, subst (λ (b : List ℕ). IsStorable b q) (sym kept_is ∙ same) fresh.store_is.accepted)
 
-pub at_given : (found : Checkpoint) (s : Store) (q : Problem) (mesh : Mesh) (kept bytes : List ℕ) → found ≡ read.At s q mesh → IsUsable found → kept ≡ problem_in s → kept ≡ bytes → (p : Problem) × IsProblemOf bytes p
+pub at_given : (found : Checkpoint) (s : Store) (q : Problem) (mesh : Mesh) (kept bytes : List ℕ) → found ≡ read.At s q mesh → IsUsable found → kept ≡ problem_in s → kept ≡ bytes → (p : Problem) × IsStorable bytes p
 at_given found s q mesh kept bytes is usable kept_is same =
     let at : IsStoreAt q s mesh = subst IsUsable is usable in
-    (q, subst (λ (b : List ℕ). IsProblemOf b q) (sym kept_is ∙ same) at.past.store_is.accepted)
+    (q, subst (λ (b : List ℕ). IsStorable b q) (sym kept_is ∙ same) at.past.store_is.accepted)
 
 pub at_goes_on : (found : Checkpoint) (s : Store) (q : Problem) (mesh : Mesh) (kept bytes : List ℕ) (p : Problem) → found ≡ read.At s q mesh → IsUsable found → kept ≡ problem_in s → kept ≡ bytes → IsProblemOf bytes p
     → (content_of found ≡ content_at_mesh bytes p mesh) × (problem_in s ≡ bytes) × IsStoreAt p s mesh

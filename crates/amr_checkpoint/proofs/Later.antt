@@ -6,7 +6,7 @@ use Rattle.std.specs.Prelude.{◌&&◌, ◌==◌, is_some}
 use Rattle.amr_def.specs.declared.problem.Problem.{Problem}
 use Rattle.amr_def.specs.declared.problem.Row.{Row}
 use Rattle.amr_def.specs.Facts.{IsSound}
-use Rattle.amr_def.specs.Regrid.{regrid}
+use Rattle.amr_def.specs.Regrid.{regrid, regrid_by}
 use Rattle.amr_def.specs.Run.{finish, next, regrid_is_due, stepped, times}
 use Rattle.amr_def.specs.State.{State}
 use Rattle.amr_def.proofs.Runs.{finish_step}
@@ -40,7 +40,7 @@ begins_pushed : (rows : List Row) (r : Row) → Begins rows (rows ++ r ∷ [])
 begins_pushed rows r = take-append-le (length rows) rows (r ∷ []) (omega arith) ∙ take_all (length rows) rows (omega arith)
 
 regrid_rows : (p : Problem) (s : State) (b : Bool) → (cond b (regrid p s) s).rows ≡ s.rows
-unfolding regrid
+unfolding regrid regrid_by
 regrid_rows p s true = refl
 regrid_rows p s false = refl
 

@@ -14,7 +14,6 @@ use Rattle.amr_payload.proofs.Deltas.{delta_back, delta_is}
 use Rattle.amr_payload.proofs.ReadStates.{decoded_is}
 use Rattle.amr_payload.proofs.WriteStates.{read_back}
 use Rattle.amr_payload.proofs.Bytes.{IsByte}
-use Rattle.amr_problem.specs.Judgement.{IsProblemOf}
 use Rattle.amr_store.specs.declared.part.Part.{Part}
 use Rattle.amr_store.specs.declared.part.Part.TheVariants as part
 use Rattle.amr_store.specs.Created.{state_with}
@@ -22,7 +21,7 @@ use Rattle.amr_store.specs.Layout.{long_at}
 use Rattle.amr_store.specs.Table.{chain_of, latest_base, table}
 use Rattle.amr_store.specs.Renewed.{renewed_state}
 use Rattle.amr_store.specs.Stored as store
-use Rattle.amr_checkpoint.specs.Contents.{Damaged, Fresh, At, StoreHolds, chain_read, in_sequence, latest_read, mass_width, payload_read, record_read, records_read, room_for, store_read, then_on}
+use Rattle.amr_checkpoint.specs.Contents.{Damaged, Fresh, At, IsStorable, StoreHolds, chain_read, in_sequence, latest_read, mass_width, payload_read, record_read, records_read, room_for, store_read, then_on}
 use Rattle.amr_checkpoint.specs.Laws.{IsSoundAt, StoresProblem}
 use Rattle.amr_checkpoint.proofs.Readings.{IsAt, at_of, is_mass_width}
 
@@ -48,11 +47,11 @@ pub held_as : (held : store.State) (bytes : List ℕ) (p : Problem) (s : State) 
 held_as held bytes p s of is =
     inr record {
       problem = p;
-      accepted = subst (λ (b : List ℕ). IsProblemOf b p) (sym of.bytes_are) of.accepted;
+      accepted = subst (λ (b : List ℕ). IsStorable b p) (sym of.bytes_are) of.accepted;
       content_is = ap (λ (b : List ℕ). At b p s (s.step + 1)) (sym of.bytes_are) ∙ sym is;
     }
 
-pub creation_holds : (stored : store.Stored) (bytes : List ℕ) (p : Problem) (version deltas : ℕ) → IsProblemOf bytes p → stored ≡ store.Held (state_with version deltas bytes (room_for version p)) → StoreHolds stored (Fresh bytes p)
+pub creation_holds : (stored : store.Stored) (bytes : List ℕ) (p : Problem) (version deltas : ℕ) → IsStorable bytes p → stored ≡ store.Held (state_with version deltas bytes (room_for version p)) → StoreHolds stored (Fresh bytes p)
 creation_holds stored bytes p version deltas accepted is =
     let made : store.State = state_with version deltas bytes (room_for version p) in
     subst (λ (st : store.Stored). StoreHolds st (Fresh bytes p)) (sym is) (inr record { problem = p; accepted = accepted; content_is = sym (store_reads made p refl) })
@@ -72,7 +71,7 @@ put_holds before stored bytes p held s was of sound is =
     subst (λ (st : store.Stored). StoreHolds st (At bytes p s (s.step + 1))) (sym put)
     (held_at after bytes p s (record { bytes_are = of.bytes_are; accepted = of.accepted; room = of.room }) sound refl refl)
 
-pub renewal_holds : (stored : store.Stored) (bytes : List ℕ) (p : Problem) (s : State) → IsProblemOf bytes p → IsSound p s
+pub renewal_holds : (stored : store.Stored) (bytes : List ℕ) (p : Problem) (s : State) → IsStorable bytes p → IsSound p s
     → stored ≡ store.Held (renewed_state bytes (slot_size w32 p) (s.step + 1) (payload w32 s)) → StoreHolds stored (At bytes p s (s.step + 1))
 renewal_holds stored bytes p s accepted sound is =
     let made : store.State = renewed_state bytes (slot_size w32 p) (s.step + 1) (payload w32 s) in
@@ -112,7 +111,7 @@ record_holds before stored bytes p old s held_before sound_old sound later is =
     let after : store.State = record by.held { records = by.held.records ++ e ∷ [] } in
     let put : stored ≡ store.Held after = is ∙ ap (λ (b : store.Stored). store.with_record b (s.step + 1) (delta_bytes old (old.step + 1) s)) by.stored_is in
     let room : by.held.slot_size ≡ room_for by.held.version p = subst (λ (q : Problem). by.held.slot_size ≡ room_for by.held.version q) (sym at.problem_is) at.room in
-    let accepted : IsProblemOf bytes p = subst (λ (q : Problem). IsProblemOf bytes q) (sym at.problem_is) (subst (λ (b : List ℕ). IsProblemOf b by.problem) (sym at.bytes_are) by.accepted) in
+    let accepted : IsStorable bytes p = subst (λ (q : Problem). IsStorable bytes q) (sym at.problem_is) (subst (λ (b : List ℕ). IsStorable b by.problem) (sym at.bytes_are) by.accepted) in
     let read : decoded (mass_width by.held.version) p at.entry.payload ≡ Ok at.base = subst (λ (q : Problem). decoded (mass_width by.held.version) q at.entry.payload ≡ Ok at.base) (sym at.problem_is) at.read in
     let applied : records_read p 1 at.base by.held.records ≡ Ok old = subst (λ (q : Problem). records_read q 1 at.base by.held.records ≡ Ok old) (sym at.problem_is) at.applied in
     subst (λ (st : store.Stored). StoreHolds st (At bytes p s (s.step + 1))) (sym put)
@@ -196,9 +195,9 @@ holds_sound image bytes p s sequence small h =
     let payload_small : All IsByte at.entry.payload = subst HasBytes at.latest states.latest in
     let base : IsSound by.problem at.base = (decoded_is (mass_width by.held.version) by.problem at.base at.entry.payload (is_mass_width by.held.version) payload_small at.read).sound in
     let sound : IsSound by.problem s = records_sound by.problem 1 at.base s by.held.records states.records base at.applied in
-    let accepted : IsProblemOf bytes by.problem = subst (λ (b : List ℕ). IsProblemOf b by.problem) (sym at.bytes_are) by.accepted in
+    let accepted : IsStorable bytes by.problem = subst (λ (b : List ℕ). IsStorable b by.problem) (sym at.bytes_are) by.accepted in
     record {
-      accepted = subst (λ (q : Problem). IsProblemOf bytes q) (sym at.problem_is) accepted;
+      accepted = subst (λ (q : Problem). IsStorable bytes q) (sym at.problem_is) accepted;
       sound = subst (λ (q : Problem). IsSound q s) (sym at.problem_is) sound;
       sequence_is = at.sequence_is;
     }

@@ -13,7 +13,6 @@ use Rattle.amr_payload.specs.Delta.{IsLater, delta_bytes, delta_size}
 use Rattle.amr_payload.specs.Payload.{level_cells, number_bytes, payload, slot_size}
 use Rattle.amr_payload.proofs.Room.{fits_slot, payload_fits_delta}
 use Rattle.amr_problem.specs.declared.fault.ProblemFault.TheVariants.{TooLong}
-use Rattle.amr_problem.specs.Judgement.{IsProblemOf}
 use Rattle.amr_problem.proofs.PlainLaws.{too_many_bytes}
 use Rattle.amr_store.specs.declared.part.StoreFault.{StoreFault}
 use Rattle.amr_store.specs.declared.part.StoreFault.TheVariants as call
@@ -33,7 +32,7 @@ use Rattle.amr_disk.specs.Moments.{StopsIn}
 use Rattle.amr_checkpoint.specs.declared.faults.CheckpointFault.{CheckpointFault}
 use Rattle.amr_checkpoint.specs.declared.faults.CheckpointFault.TheVariants.{DiskFault, NoMemory}
 use Rattle.amr_checkpoint.specs.Checkpoints.{IsPut, IsStoreFor, StaysTold, renewed_version}
-use Rattle.amr_checkpoint.specs.Contents.{Content, Empty, Fresh, At, Holds, StoreHolds, mass_width, room_for}
+use Rattle.amr_checkpoint.specs.Contents.{Content, Empty, Fresh, At, Holds, IsStorable, StoreHolds, mass_width, room_for}
 use Rattle.amr_checkpoint.specs.Laws.{StoresProblem}
 use Rattle.amr_checkpoint.specs.Made.{ReadsWith, image_made, put_into, put_whole, state_made, takes_record}
 use Rattle.amr_checkpoint.specs.Reasons.{fault_of_call}
@@ -61,10 +60,10 @@ room_small p =
     omega (arith, sum_below (λ l. 4 + (byte_len w32 + 4) * level_cells p l) (2 ^ 28) (p.max_level + 1) 5 (omega arith) (level_bytes p))
 
 -- nor is the problem
-pub text_short : (bytes : List ℕ) (p : Problem) → IsProblemOf bytes p → length bytes ≤ 65536
+pub text_short : (bytes : List ℕ) (p : Problem) → IsStorable bytes p → length bytes ≤ 65536
 text_short bytes p accepted = elim (cases_Bool (nat_le (length bytes) 65536)) [
   | inl short ↦ leb-true (length bytes) 65536 short
-  | inr long ↦ absurd (let clash : Some TooLong ≡ None = sym (too_many_bytes bytes (omega (arith, leb-false (length bytes) 65536 long))) ∙ accepted.clean in cc)
+  | inr long ↦ absurd (let clash : Some TooLong ≡ None = sym (too_many_bytes bytes (omega (arith, leb-false (length bytes) 65536 long))) ∙ accepted.accepted.clean in cc)
 ]
 
 -- ---- stops
@@ -73,16 +72,16 @@ same_holds : (stored other : store.Stored) (content : Content) → stored ≡ ot
 same_holds stored other content is h = subst (λ (st : store.Stored). StoreHolds st content) (sym is) h
 
 -- a creation, and a stop within it
-pub creation_made : (c bytes : List ℕ) (p : Problem) (deltas : Option ℕ) → IsProblemOf bytes p → store.stored c ≡ store.Held (state_made deltas bytes p) → Holds c (Fresh bytes p)
+pub creation_made : (c bytes : List ℕ) (p : Problem) (deltas : Option ℕ) → IsStorable bytes p → store.stored c ≡ store.Held (state_made deltas bytes p) → Holds c (Fresh bytes p)
 creation_made c bytes p None accepted made = creation_holds (store.stored c) bytes p 2 0 accepted made
 creation_made c bytes p (Some d) accepted made = creation_holds (store.stored c) bytes p 3 d accepted made
 
-pub creation_stop : (c bytes : List ℕ) (p : Problem) (deltas : Option ℕ) → IsProblemOf bytes p → store.stored c ≡ store.Empty ⊎ store.stored c ≡ store.Held (state_made deltas bytes p) → Holds c Empty ⊎ Holds c (Fresh bytes p)
+pub creation_stop : (c bytes : List ℕ) (p : Problem) (deltas : Option ℕ) → IsStorable bytes p → store.stored c ≡ store.Empty ⊎ store.stored c ≡ store.Held (state_made deltas bytes p) → Holds c Empty ⊎ Holds c (Fresh bytes p)
 creation_stop c bytes p deltas accepted either =
     ⊎_elim (λ none. inl (same_holds (store.stored c) store.Empty Empty none refl)) (λ made. inr (creation_made c bytes p deltas accepted made)) either
 
 -- a renewal, and a stop within it
-pub renewal_made : (c bytes payload_bytes : List ℕ) (p : Problem) (state : State) (size sequence : ℕ) → IsProblemOf bytes p → IsSound p state → size ≡ slot_size w32 p → sequence ≡ state.step + 1 → payload_bytes ≡ payload w32 state
+pub renewal_made : (c bytes payload_bytes : List ℕ) (p : Problem) (state : State) (size sequence : ℕ) → IsStorable bytes p → IsSound p state → size ≡ slot_size w32 p → sequence ≡ state.step + 1 → payload_bytes ≡ payload w32 state
     → store.stored c ≡ store.Held (renewed_state bytes size sequence payload_bytes) → Holds c (At bytes p state (state.step + 1))
 renewal_made c bytes payload_bytes p state size sequence accepted sound size_is sequence_is payload_is made =
     renewal_holds (store.stored c) bytes p state accepted sound
@@ -91,7 +90,7 @@ renewal_made c bytes payload_bytes p state size sequence accepted sound size_is 
     ∙ ap (λ q. store.Held (renewed_state bytes (slot_size w32 p) q payload_bytes)) sequence_is
     ∙ ap (λ b. store.Held (renewed_state bytes (slot_size w32 p) (state.step + 1) b)) payload_is)
 
-pub renewal_stop : (s c bytes payload_bytes : List ℕ) (p : Problem) (state : State) (content : Content) (size sequence : ℕ) → IsProblemOf bytes p → IsSound p state → Holds s content → size ≡ slot_size w32 p → sequence ≡ state.step + 1
+pub renewal_stop : (s c bytes payload_bytes : List ℕ) (p : Problem) (state : State) (content : Content) (size sequence : ℕ) → IsStorable bytes p → IsSound p state → Holds s content → size ≡ slot_size w32 p → sequence ≡ state.step + 1
     → payload_bytes ≡ payload w32 state → store.stored c ≡ store.stored s ⊎ store.stored c ≡ store.Held (renewed_state bytes size sequence payload_bytes) → Holds c content ⊎ Holds c (At bytes p state (state.step + 1))
 renewal_stop s c bytes payload_bytes p state content size sequence accepted sound h size_is sequence_is payload_is either =
     ⊎_elim (λ same. inl (same_holds (store.stored c) (store.stored s) content same h))
@@ -143,15 +142,15 @@ module _ {D : Type 0} (seen : D → Option (List ℕ)) (moment : D → ℕ) (lea
 -- the store after a put is the one before it but for its slots
 pub store_after : (old new : Store) (p : Problem) → IsStoreFor p old → SameStore old new → is_shut new ≡ (is_shut old || false) → IsStoreFor p new
 store_after old new p of same shuts = record {
-  accepted = subst (λ (b : List ℕ). IsProblemOf b p) (sym same.problem) of.accepted;
+  accepted = subst (λ (b : List ℕ). IsStorable b p) (sym same.problem) of.accepted;
   room = same.slot_size ∙ of.room ∙ ap (λ v. room_for v p) (sym same.version);
   unshut = shut_stays (is_shut old) (is_shut new) shuts of.unshut;
 }
 
 -- one that was made or renewed
-pub store_made : (new : Store) (bytes : List ℕ) (p : Problem) (version deltas size : ℕ) → IsProblemOf bytes p → size ≡ room_for version p → IsStoreOf version bytes size deltas new → IsStoreFor p new
+pub store_made : (new : Store) (bytes : List ℕ) (p : Problem) (version deltas size : ℕ) → IsStorable bytes p → size ≡ room_for version p → IsStoreOf version bytes size deltas new → IsStoreFor p new
 store_made new bytes p version deltas size accepted room of = record {
-  accepted = subst (λ (b : List ℕ). IsProblemOf b p) (sym of.problem_is) accepted;
+  accepted = subst (λ (b : List ℕ). IsStorable b p) (sym of.problem_is) accepted;
   room = of.size_is ∙ room ∙ ap (λ v. room_for v p) (sym of.version_is);
   unshut = of.unshut;
 }

@@ -1,6 +1,7 @@
 -- What an image holds, and what follows from it.
-use Rattle.std.proofs.Common.{◌≡◌, inl, inr, ⊎_elim, ℕ, ◌+◌, Bool, true, false, List, Option, Some, None, Result, refl, sym, ◌∙◌, ap, subst}
-use Rattle.std.proofs.lemmas.Bool.{eqb-true}
+use Rattle.std.proofs.Common.{◌≡◌, ◌≢◌, inl, inr, ⊎_elim, ℕ, ◌+◌, Bool, true, false, List, Option, Some, None, Result, refl, sym, ◌∙◌, ap, subst}
+use Rattle.std.proofs.lemmas.Bool.{eqb-false, eqb-true}
+use Rattle.std.proofs.lemmas.Option.{none-some}
 use Rattle.std.specs.Prelude.{◌==◌, if◌then◌else◌, Ok, Err}
 use Rattle.std.specs.Int.{w32, w64}
 use Rattle.amr_def.specs.declared.problem.Problem.{Problem}
@@ -11,31 +12,36 @@ use Rattle.amr_problem.specs.Judgement.{IsProblemOf}
 use Rattle.amr_problem.proofs.OneProblem.{one_problem}
 use Rattle.amr_store.specs.declared.part.Part.TheVariants as part
 use Rattle.amr_store.specs.Stored as store
-use Rattle.amr_checkpoint.specs.Contents.{Content, Empty, Damaged, Fresh, At, StoreHolds, IsNoProblem, IsReadBy, chain_read, latest_read, mass_width, payload_read, records_read, room_for, store_read}
+use Rattle.amr_checkpoint.specs.Contents.{Content, Empty, Damaged, Fresh, At, StoreHolds, IsNoProblem, IsReadBy, IsStorable, chain_read, latest_read, mass_width, payload_read, records_read, room_for, store_read}
 use Rattle.amr_checkpoint.specs.Laws.{IsJudged}
 
 -- ---- one content
 
-no_fault_of_problem : (held : store.State) (a b : Content) → IsNoProblem held a → IsReadBy held b → ⊥
-no_fault_of_problem held a b h k = let clash : Some h.fault ≡ None = sym h.refused ∙ k.accepted.clean in cc
+-- of several species it is none that can be stored
+pub several_unstorable : (bytes : List ℕ) (p : Problem) → IsProblemOf bytes p → p.species ≢ 1 → (q : Problem) → ¬ (IsStorable bytes q)
+several_unstorable bytes p accepted several q is = several (ap (λ (r : Problem). r.species) (one_problem bytes p q accepted is.accepted) ∙ is.alone)
 
 pub holds_one : (stored : store.Stored) (a b : Content) → StoreHolds stored a → StoreHolds stored b → a ≡ b
 holds_one store.Empty a b h k = h ∙ sym k
 holds_one (store.Damaged damage) a b h k = h ∙ sym k
 holds_one (store.Held held) a b (inl h) (inl k) = h.content_is ∙ sym k.content_is
-holds_one (store.Held held) a b (inl h) (inr k) = absurd (no_fault_of_problem held a b h k)
-holds_one (store.Held held) a b (inr h) (inl k) = absurd (no_fault_of_problem held b a k h)
+holds_one (store.Held held) a b (inl h) (inr k) = absurd (h.none k.problem k.accepted)
+holds_one (store.Held held) a b (inr h) (inl k) = absurd (k.none h.problem h.accepted)
 holds_one (store.Held held) a b (inr h) (inr k) =
-    h.content_is ∙ ap (λ (p : Problem). store_read held p) (one_problem held.problem h.problem k.problem h.accepted k.accepted) ∙ sym k.content_is
+    h.content_is ∙ ap (λ (p : Problem). store_read held p) (one_problem held.problem h.problem k.problem h.accepted.accepted k.accepted.accepted) ∙ sym k.content_is
 
 pub holds_some : (stored : store.Stored) → ((held : store.State) → stored ≡ store.Held held → IsJudged held.problem) → (content : Content) × StoreHolds stored content
 holds_some store.Empty judged = (Empty, refl)
 holds_some (store.Damaged damage) judged = (Damaged damage, refl)
 holds_some (store.Held held) judged =
     ⊎_elim
-    (λ fault. (Damaged part.Problem, inl record { fault = fault.0; refused = fault.1; content_is = refl }))
-    (λ p. (store_read held p.0, inr record { problem = p.0; accepted = p.1; content_is = refl }))
+    (λ fault. (Damaged part.Problem, inl record { none = λ p is. none-some fault.0 (sym is.accepted.clean ∙ fault.1); content_is = refl }))
+    (λ p. counted p.0 p.1 (p.0.species == 1) refl)
     (judged held refl)
+  where
+    counted : (p : Problem) → IsProblemOf held.problem p → (b : Bool) → (p.species == 1) ≡ b → (content : Content) × StoreHolds (store.Held held) content
+    counted p accepted true one = (store_read held p, inr record { problem = p; accepted = record { accepted = accepted; alone = eqb-true p.species 1 one }; content_is = refl })
+    counted p accepted false more = (Damaged part.Problem, inl record { none = several_unstorable held.problem p accepted (eqb-false p.species 1 more); content_is = refl })
 
 -- ---- what a store reads as
 
@@ -104,7 +110,7 @@ pub record IsHeldAs (stored : store.Stored) (content : Content) : Type 0 where
   pub held : store.State
   pub stored_is : stored ≡ store.Held held
   pub problem : Problem
-  pub accepted : IsProblemOf held.problem problem
+  pub accepted : IsStorable held.problem problem
   pub tells : Tells held problem content
 
 pub at_of : (stored : store.Stored) (bytes : List ℕ) (p : Problem) (s : State) (sequence : ℕ) → StoreHolds stored (At bytes p s sequence) → IsHeldAs stored (At bytes p s sequence)

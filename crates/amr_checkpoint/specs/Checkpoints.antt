@@ -10,7 +10,6 @@ use Rattle.amr_disk.specs.Moments.{StopsIn}
 use Rattle.amr_payload.specs.Delta.{IsLater}
 use Rattle.amr_patch.specs.declared.meshes.Mesh.{Mesh}
 use Rattle.amr_patch.specs.Meshes.{is_spent, levels_of, state_of}
-use Rattle.amr_problem.specs.Judgement.{IsProblemOf}
 use Rattle.amr_store.specs.declared.store.Store.{Store}
 use Rattle.amr_store.specs.Stands.{IsStoreReady, chain_in, deltas_in, is_shut, last_in, problem_in, slot_size_in, version_in}
 use Rattle.amr_checkpoint.specs.declared.checkpoint.KeptStore.{KeptStore}
@@ -20,7 +19,7 @@ use Rattle.amr_checkpoint.specs.declared.resumption.Resumed.{Resumed}
 use Rattle.amr_checkpoint.specs.declared.resumption.Resumed.TheVariants as resumed
 use Rattle.amr_checkpoint.specs.declared.faults.CheckpointFault.{CheckpointFault}
 use Rattle.amr_checkpoint.specs.declared.faults.CheckpointFault.TheVariants.{DiskFault, NoMemory}
-use Rattle.amr_checkpoint.specs.Contents.{Content, Empty, Damaged, Fresh, At, Holds, room_for}
+use Rattle.amr_checkpoint.specs.Contents.{Content, Empty, Damaged, Fresh, At, Holds, IsStorable, room_for}
 use Rattle.amr_checkpoint.specs.Made.{ReadsWith, takes_record}
 
 -- a mesh holds a state with the sequence of its step and one
@@ -50,7 +49,7 @@ renewed_version version = if version == 1 then 2 else version
 
 -- a store of the problem, with room for its states, that is not shut
 pub record IsStoreFor (p : Problem) (store : Store) : Type 0 where
-  pub accepted : IsProblemOf (problem_in store) p
+  pub accepted : IsStorable (problem_in store) p
   pub room : slot_size_in store ≡ room_for (version_in store) p
   pub unshut : is_shut store ≡ false
 

@@ -8,8 +8,7 @@ use Rattle.amr_def.specs.State.{State}
 use Rattle.amr_payload.specs.Delta.{delta_decoded, delta_size}
 use Rattle.amr_payload.specs.Payload.{slot_size}
 use Rattle.amr_payload.specs.Tests.{decoded}
-use Rattle.amr_problem.specs.declared.fault.ProblemFault.{ProblemFault}
-use Rattle.amr_problem.specs.Judgement.{IsProblemOf, fault_of}
+use Rattle.amr_problem.specs.Judgement.{IsProblemOf}
 use Rattle.amr_store.specs.declared.part.Part.{Part}
 use Rattle.amr_store.specs.declared.part.Part.TheVariants as part
 use Rattle.amr_store.specs.Stored as store
@@ -65,16 +64,20 @@ latest_read held p (Some entry) = payload_read held.problem p entry.sequence hel
 abbrev pub store_read : store.State → Problem → Content
 store_read held p = if held.slot_size == room_for held.version p then latest_read held p held.latest else Damaged part.Size
 
--- the store's bytes are no problem
+-- the bytes are this problem, and it can be stored: a store keeps one species
+pub record IsStorable (bytes : List ℕ) (p : Problem) : Type 0 where
+  pub accepted : IsProblemOf bytes p
+  pub alone : p.species ≡ 1
+
+-- the store's bytes are no problem that can be stored
 pub record IsNoProblem (held : store.State) (content : Content) : Type 0 where
-  pub fault : ProblemFault
-  pub refused : fault_of held.problem ≡ Some fault
+  pub none : (p : Problem) → ¬ (IsStorable held.problem p)
   pub content_is : content ≡ Damaged part.Problem
 
--- the store's bytes are a problem, and by it the store reads as this
+-- the store's bytes are such a problem, and by it the store reads as this
 pub record IsReadBy (held : store.State) (content : Content) : Type 0 where
   pub problem : Problem
-  pub accepted : IsProblemOf held.problem problem
+  pub accepted : IsStorable held.problem problem
   pub content_is : content ≡ store_read held problem
 
 abbrev pub StoreHolds : store.Stored → Content → Type 0

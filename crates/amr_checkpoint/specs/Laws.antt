@@ -15,7 +15,7 @@ use Rattle.amr_store.specs.Created.{HasNumber, state_with}
 use Rattle.amr_store.specs.Renewed.{renewed_state}
 use Rattle.amr_store.specs.Stored as store
 use Rattle.amr_checkpoint.specs.declared.refusal.Refusal.{Refusal}
-use Rattle.amr_checkpoint.specs.Contents.{Content, Empty, Damaged, Fresh, At, Holds, IsReached, mass_width, rank, room_for, state_from}
+use Rattle.amr_checkpoint.specs.Contents.{Content, Empty, Damaged, Fresh, At, Holds, IsReached, IsStorable, mass_width, rank, room_for, state_from}
 use Rattle.amr_checkpoint.specs.Marks.{acknowledgements, answer_of_run, checkpoint_line, marks, to_make}
 use Rattle.amr_checkpoint.specs.Refusals.{CanShow, GoesOn, RefusesRun, RefusesShow}
 
@@ -36,7 +36,7 @@ HoldsSome =
 
 -- a state that is stored is a sound one of its problem, and its sequence its step and one
 pub record IsSoundAt (bytes : List ℕ) (p : Problem) (s : State) (sequence : ℕ) : Type 0 where
-  pub accepted : IsProblemOf bytes p
+  pub accepted : IsStorable bytes p
   pub sound : IsSound p s
   pub sequence_is : sequence ≡ s.step + 1
 
@@ -49,13 +49,13 @@ HoldsSound =
 
 -- a new store of any version has room for the problem's states
 abbrev pub CreationHolds : Type 0
-CreationHolds = (image bytes : List ℕ) (p : Problem) (version deltas : ℕ) → HasNumber version deltas → IsProblemOf bytes p
+CreationHolds = (image bytes : List ℕ) (p : Problem) (version deltas : ℕ) → HasNumber version deltas → IsStorable bytes p
     → store.stored image ≡ store.Held (state_with version deltas bytes (room_for version p)) → Holds image (Fresh bytes p)
 
 -- what is stored is of this problem, with room for its states
 pub record StoresProblem (held : store.State) (bytes : List ℕ) (p : Problem) : Type 0 where
   pub bytes_are : held.problem ≡ bytes
-  pub accepted : IsProblemOf bytes p
+  pub accepted : IsStorable bytes p
   pub room : held.slot_size ≡ room_for held.version p
 
 -- the payload of a sound state, put with the sequence of its step and one
@@ -73,7 +73,7 @@ RecordHolds =
 
 -- and the renewal of a store of version 1 with a state
 abbrev pub RenewalHolds : Type 0
-RenewalHolds = (image bytes : List ℕ) (p : Problem) (s : State) → IsProblemOf bytes p → IsSound p s
+RenewalHolds = (image bytes : List ℕ) (p : Problem) (s : State) → IsStorable bytes p → IsSound p s
     → store.stored image ≡ store.Held (renewed_state bytes (slot_size w32 p) (s.step + 1) (payload w32 s)) → Holds image (At bytes p s (s.step + 1))
 
 -- ---- runs

@@ -10,7 +10,6 @@ ghost use Rattle.amr_disk.specs.Moments.{StopsIn};
 ghost use Rattle.amr_patch.specs.Meshes.{is_spent, state_of};
 ghost use Rattle.amr_payload.specs.Delta.{IsLater};
 ghost use Rattle.amr_payload.specs.Payload.{slot_size};
-ghost use Rattle.amr_problem.specs.Judgement.{IsProblemOf};
 ghost use Rattle.amr_store.specs.Phases.{StopsFrom};
 ghost use Rattle.amr_store.specs.Reasons.{HasReason, is_no_memory, is_shut_fault};
 ghost use Rattle.amr_store.specs.Stands.{IsStoreOf, IsStoreReady, chain_in, deltas_in, last_in, problem_in, version_in};
@@ -18,7 +17,7 @@ ghost use Rattle.amr_store.specs.Stored as stores;
 ghost use Rattle.amr_checkpoint.specs.Checkpoints.{HoldsLatest, IsCopyWhere, IsFreshStore, IsLatest, IsPut};
 ghost use Rattle.amr_checkpoint.specs.Checkpoints.{IsStoreAfter, IsStoreAt, IsStoreFor, MayPut, StaysTold};
 ghost use Rattle.amr_checkpoint.specs.Checkpoints.{content_at_mesh};
-ghost use Rattle.amr_checkpoint.specs.Contents.{Content, Empty, Fresh, Holds, room_for};
+ghost use Rattle.amr_checkpoint.specs.Contents.{Content, Empty, Fresh, Holds, IsStorable, room_for};
 ghost use Rattle.amr_checkpoint.specs.Kept.{fault_in};
 ghost use Rattle.amr_checkpoint.specs.Made.{ReadsWith, deltas_made, image_made, state_made, takes_record, version_made};
 
@@ -62,7 +61,7 @@ fn create<D: Disk>(
     disk: &mut D,
 ) -> Result<Store, StoreFault>
     requires deltas { IfSome deltas (λ d. (0 < d) × (d ≤ 7)) }
-    requires accepted { IsProblemOf bytes.now p.now }
+    requires accepted { IsStorable bytes.now p.now }
     requires settled { Only (D.seen disk.old) (D.leaves disk.old (D.moment disk.old)) }
     requires empty { (s : List ℕ) → D.seen disk.old ≡ Some s → stores.stored s ≡ stores.Empty }
     ensures store { IfOk result (IsStoreOf (version_made deltas) bytes.now (room_for (version_made deltas) p.now) (deltas_made deltas)) }
@@ -82,7 +81,7 @@ fn create<D: Disk>(
     }
 }
 
-/// Makes the store of a run's problem, which these bytes are, where the disk holds none: one of version 2, or with records of version 3. A stop at
+/// Makes the store of a run's problem of one species, which these bytes are, where the disk holds none: one of version 2, or with records of version 3. A stop at
 /// any moment leaves nothing, or the new store. If allocation fails the disk is as before.
 pub fn make_store<D: Disk>(
     alloc: Global,
@@ -92,7 +91,7 @@ pub fn make_store<D: Disk>(
     disk: &mut D,
 ) -> Result<Store, CheckpointFault>
     requires deltas { IfSome deltas (λ d. (0 < d) × (d ≤ 7)) }
-    requires accepted { IsProblemOf bytes.now p.now }
+    requires accepted { IsStorable bytes.now p.now }
     requires settled { Only (D.seen disk.old) (D.leaves disk.old (D.moment disk.old)) }
     requires empty { (s : List ℕ) → D.seen disk.old ≡ Some s → Holds s Empty }
     ensures store { IfOk result (IsFreshStore p.now) }

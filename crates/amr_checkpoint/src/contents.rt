@@ -1,6 +1,7 @@
 //! Reading what a disk holds for a program: the readings of the store, of its problem and of its latest state, in their order.
-ghost use Rattle.std.specs.Prelude.{◌≡◌, ◌≤◌, ℕ, List, Some, false, IfOk, IsErrOf};
+ghost use Rattle.std.specs.Prelude.{◌≡◌, ◌≤◌, ℕ, List, Some, None, false, IfOk, IfSome, IsErrOf};
 ghost use Rattle.amr_causes.specs.Causes.{Rose};
+ghost use Rattle.amr_def.specs.declared.problem.Problem.{Problem};
 ghost use Rattle.amr_disk.specs.Image.{Only};
 ghost use Rattle.amr_store.specs.Phases.{OnlyReads};
 ghost use Rattle.amr_store.specs.Shown.{Shows, ShowsState};
@@ -8,10 +9,11 @@ ghost use Rattle.amr_store.specs.Stands.{IsStoreReady, is_shut};
 ghost use Rattle.amr_store.specs.Stored.{Held, State, stored};
 ghost use Rattle.amr_checkpoint.specs.Checkpoints.{IsReadReady, IsStoreFor, IsUsable, content_of};
 ghost use Rattle.amr_checkpoint.specs.Reasons.{fault_of_call};
-ghost use Rattle.amr_checkpoint.specs.Contents.{Holds, latest_read, room_for};
+ghost use Rattle.amr_checkpoint.specs.Contents.{Holds, IsStorable, latest_read, room_for};
 
 use crate::faults::CheckpointFault;
 use crate::latest::{StateFault, read_state};
+use amr_causes::NoMemory;
 use amr_codec::{slot_size, slot_size2};
 use amr_def::Problem;
 use amr_delta::delta_size;
@@ -52,6 +54,24 @@ pub(crate) fn fault_of_call(fault: StoreFault) -> CheckpointFault
     match fault {
         StoreFault::DiskFault | StoreFault::Shut => CheckpointFault::DiskFault,
         StoreFault::NoMemory => CheckpointFault::NoMemory,
+    }
+}
+
+/// The problem that the bytes of a store are: none where they are no problem, or one of several species, of which a store keeps none.
+fn stored_problem(alloc: Global, bytes: &[u8]) -> Result<Option<Problem>, NoMemory>
+    ensures some { IfOk result (λ found. IfSome found (IsStorable bytes.now)) }
+    ensures none { IfOk result (λ found. found ≡ None → (p : Problem) → ¬ (IsStorable bytes.now p)) }
+{
+    match judge(alloc, bytes) {
+        Ok(problem) => {
+            if problem.species == 1 {
+                Ok(Some(problem))
+            } else {
+                Ok(None)
+            }
+        }
+        Err(JudgeFault::Fault(_fault)) => Ok(None),
+        Err(JudgeFault::NoMemory) => Err(NoMemory),
     }
 }
 
@@ -102,10 +122,10 @@ fn read_store<D: Disk>(
     ensures disk_fault { IsErrOf result CheckpointFault.DiskFault → Rose (D.faults disk.old) (D.faults disk.new) }
     ensures no_disk_fault { ¬ (IsErrOf result CheckpointFault.DiskFault) → D.faults disk.new ≡ D.faults disk.old }
 {
-    let problem = match judge(alloc, store.problem()) {
-        Ok(problem) => problem,
-        Err(JudgeFault::Fault(_)) => return Ok(Checkpoint::Damaged(Part::Problem)),
-        Err(JudgeFault::NoMemory) => return Err(CheckpointFault::NoMemory),
+    let problem = match stored_problem(alloc, store.problem()) {
+        Ok(Some(problem)) => problem,
+        Ok(None) => return Ok(Checkpoint::Damaged(Part::Problem)),
+        Err(NoMemory) => return Err(CheckpointFault::NoMemory),
     };
     if store.slot_size() == room_for(&problem, store.version()) {
         read_latest(alloc, store, problem, disk)

@@ -6,7 +6,7 @@ ghost use Rattle.amr_disk.specs.Image.{Only};
 ghost use Rattle.amr_problem.specs.Judgement.{IsProblemOf};
 ghost use Rattle.amr_store.specs.Phases.{OnlyReads};
 ghost use Rattle.amr_checkpoint.specs.Checkpoints.{CanGoOn, IsMeshFor, IsResumedReady, IsUsable, TakesStore, content_at_mesh, content_of, content_resumed};
-ghost use Rattle.amr_checkpoint.specs.Contents.{Content, Empty, Holds};
+ghost use Rattle.amr_checkpoint.specs.Contents.{Content, Empty, Holds, IsStorable};
 ghost use Rattle.amr_checkpoint.specs.Refusals.{IsOtherProblem, RefusesRun, RefusesShow};
 ghost use Rattle.amr_checkpoint.specs.declared.refusal.Refusal.{Refusal};
 
@@ -72,7 +72,7 @@ fn go_on(found: Checkpoint, bytes: &[u8], target: u32) -> Result<Resumed, Refusa
     requires { IsUsable found }
     ensures store { IfOk result (TakesStore found) }
     ensures nothing { IfOk result (λ resumed. resumed ≡ Resumed.Nothing → content_of found ≡ Empty) }
-    ensures problem { IfOk result (λ resumed. ¬ (resumed ≡ Resumed.Nothing) → (p : Problem) × IsProblemOf bytes.now p) }
+    ensures problem { IfOk result (λ resumed. ¬ (resumed ≡ Resumed.Nothing) → (p : Problem) × IsStorable bytes.now p) }
     ensures holds { IfOk result (λ resumed. (p : Problem) → IsProblemOf bytes.now p → content_of found ≡ content_resumed bytes.now p resumed) }
     ensures can_go_on { IfOk result (λ resumed. (p : Problem) → IsProblemOf bytes.now p → CanGoOn bytes.now p target resumed) }
     ensures refused { IfErr result (RefusesRun bytes.now target (content_of found)) }
@@ -119,7 +119,7 @@ pub fn resume<D: Disk>(
     disk: &mut D,
 ) -> Result<Resumed, ResumeFault>
     ensures nothing { IfOk result (λ resumed. (s : List ℕ) → resumed ≡ Resumed.Nothing → D.seen disk.old ≡ Some s → Holds s Empty) }
-    ensures problem { IfOk result (λ resumed. ¬ (resumed ≡ Resumed.Nothing) → (p : Problem) × IsProblemOf bytes.now p) }
+    ensures problem { IfOk result (λ resumed. ¬ (resumed ≡ Resumed.Nothing) → (p : Problem) × IsStorable bytes.now p) }
     ensures holds { IfOk result (λ resumed. (s : List ℕ) (p : Problem) → D.seen disk.old ≡ Some s → IsProblemOf bytes.now p
         → Holds s (content_resumed bytes.now p resumed)) }
     ensures can_go_on { IfOk result (λ resumed. (p : Problem) → IsProblemOf bytes.now p → CanGoOn bytes.now p target resumed) }

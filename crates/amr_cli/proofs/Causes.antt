@@ -1,5 +1,5 @@
 -- Words that begin with a command's name, ask for no help and have no fault are a command.
-use Rattle.std.proofs.Common.{◌≡◌, ◌∙◌, ◌⊎◌, inl, inr, Bool, true, false, ◌||◌, not, List, [], ◌∷◌, ◌++◌, Option, Some, None, is_some, option_map, option_and_then, codes, refl, sym, ap, subst, append_assoc, append-nil}
+use Rattle.std.proofs.Common.{◌≡◌, ◌∙◌, ℕ, ◌⊎◌, inl, inr, ⊎_elim, Bool, true, false, ◌||◌, not, List, [], ◌∷◌, ◌++◌, Option, Some, None, is_some, option_map, option_and_then, codes, refl, sym, ap, subst, append_assoc, append-nil}
 use Rattle.std.specs.Prelude.{find, unwrap_or}
 use Rattle.std.specs.List.{fold, list_any}
 use Rattle.std.specs.Str.{bytes_eq}
@@ -13,10 +13,10 @@ use Rattle.clap.specs.ValueTests.{accepts}
 use Rattle.clap.specs.Walk.{Held, Names, Row, Rule, Text, Walk, after_step, answers_to, arg_by_id, finished, first_of, idle, settled, subcommand_or_other, walked_from, nothing_held, rows_after, stop_after, walk, walk_from, walked}
 use Rattle.clap.specs.declared.builder.value_parser.ValueParser.TheVariants as parser
 use Rattle.clap.proofs.ValueTestLemmas.{accepts-Accepts}
-use Rattle.amr_cli.specs.Table.{NumberRow, deltas, keep, number, size, to, workers}
+use Rattle.amr_cli.specs.Table.{NumberRow, deltas, keep, level, number, size, species, to, workers, x0, x1, y0, y1}
 use Rattle.amr_cli.specs.Program.{program_app}
 use Rattle.amr_cli.specs.Numbers.{in_range, number_of}
-use Rattle.amr_cli.specs.Words.{batch_of, command_from, command_of, may_be_command, is_command_name, is_help, option_of, or_one, place_of, run_by, run_of, trial_of, workers_of}
+use Rattle.amr_cli.specs.Words.{batch_of, command_from, command_of, corners_by, corners_of, may_be_command, is_command_name, is_help, option_of, option_or, value_or, place_of, run_by, run_of, species_of, trial_of, view_by, view_of, workers_of}
 use Rattle.amr_cli.specs.declared.command.Command.TheVariants.{Batch, Trial}
 use Rattle.amr_cli.proofs.Numerals.{taken_is_read}
 use Rattle.amr_cli.proofs.Walks.{Every, IsPlainRule, RowsFit, checks, first_none, first_passes, given_first, rows_fit, second_none}
@@ -41,6 +41,9 @@ module _ (row : NumberRow) (c : List Rule) (a : Rule) (is : arg_by_id c row.name
       found None there = rw there refl
       found (Some t) there = rw there (some_map (λ n. Some n) (option_and_then (in_range row.low row.high) (number_of t)) (read_here rows t fit there))
 
+  or_read : (absent : ℕ) (rows : List Row) → RowsFit c rows → is_some (option_or absent row rows) ≡ true
+  or_read absent rows fit = some_map (value_or absent) (option_of row rows) (option_read rows fit)
+
   place_read : (rows : List Row) → RowsFit c rows → is_given row.name rows ≡ true → is_some (place_of row rows) ≡ true
   place_read rows fit given = found (first_of row.name rows) refl (given_first c row.name a is rows fit given)
     where
@@ -58,6 +61,9 @@ trial_shape = unwrap_or (find (λ (s : Shape). answers_to (codes "trial") (label
 
 abbrev batch_shape : Shape
 batch_shape = unwrap_or (find (λ (s : Shape). answers_to (codes "batch") (label_of s)) (built program_app).subs) (new_shape [])
+
+abbrev view_shape : Shape
+view_shape = unwrap_or (find (λ (s : Shape). answers_to (codes "view") (label_of s)) (built program_app).subs) (new_shape [])
 
 run_plain : Every (IsPlainRule run_shape.rules) run_shape.rules
 run_plain = (
@@ -92,6 +98,30 @@ batch_plain = (
   (record { own = refl; action = inr refl; some = λ e. absurd (cc); no_default = refl }, tt),
 )
 
+view_plain : Every (IsPlainRule view_shape.rules) view_shape.rules
+view_plain = (
+  record { own = refl; action = inl refl; some = λ _. refl; no_default = refl },
+  (
+    record { own = refl; action = inl refl; some = λ _. refl; no_default = refl },
+    (
+      record { own = refl; action = inl refl; some = λ _. refl; no_default = refl },
+      (
+        record { own = refl; action = inl refl; some = λ _. refl; no_default = refl },
+        (
+          record { own = refl; action = inl refl; some = λ _. refl; no_default = refl },
+          (
+            record { own = refl; action = inl refl; some = λ _. refl; no_default = refl },
+            (
+              record { own = refl; action = inl refl; some = λ _. refl; no_default = refl },
+              (record { own = refl; action = inr refl; some = λ e. absurd (cc); no_default = refl }, tt),
+            ),
+          ),
+        ),
+      ),
+    ),
+  ),
+)
+
 all_three : {A B C D : Type 0} (f : A → B → C → D) (a : Option A) (b : Option B) (c : Option C) → is_some a ≡ true → is_some b ≡ true → is_some c ≡ true → is_some (option_and_then (λ x. option_and_then (λ y. option_map (λ z. f x y z) c) b) a) ≡ true
 all_three f None b c ha hb hc = absurd (true≢false (sym ha))
 all_three f (Some x) None c ha hb hc = absurd (true≢false (sym hb))
@@ -108,31 +138,55 @@ run_read words none =
     let rows = rows_after run_shape.rules [] words in
     let fit = rows_fit run_shape run_plain words none in
     all_four (λ w k e d. run_by w k e d) (workers_of rows) (option_of to rows) (option_of keep rows) (option_of deltas rows)
-    (some_map or_one (option_of workers rows) (option_read workers run_shape.rules _ refl refl rows fit))
+    (or_read workers run_shape.rules _ refl refl 1 rows fit)
     (option_read to run_shape.rules _ refl refl rows fit)
     (option_read keep run_shape.rules _ refl refl rows fit)
     (option_read deltas run_shape.rules _ refl refl rows fit)
 
-given_both : (a b : Bool) → check_kinds false false ((not a) || ((not b) || false)) ≡ [] → (a ≡ true) × (b ≡ true)
-given_both true true h = (refl, refl)
-given_both true false h = absurd (cc)
-given_both false b h = absurd (cc)
+-- what is wanted was given, and so was the rest of it
+given_too : (a rest : Bool) → check_kinds false false ((not a) || rest) ≡ [] → (a ≡ true) × (check_kinds false false rest ≡ [])
+given_too true rest h = (refl, h)
+given_too false rest h = absurd (cc)
 
 trial_read : (words : List Text) → level_fault trial_shape [] nothing_held words false [] ≡ [] → is_some (trial_of (rows_after trial_shape.rules [] words)) ≡ true
 trial_read words none =
     let rows = rows_after trial_shape.rules [] words in
     let fit = rows_fit trial_shape trial_plain words none in
-    let both = given_both (is_given number.name rows) (is_given size.name rows) (checks trial_shape trial_plain words none) in
+    let a = given_too (is_given number.name rows) ((not (is_given size.name rows)) || false) (checks trial_shape trial_plain words none) in
+    let b = given_too (is_given size.name rows) false a.1 in
     all_three (λ n m w. Trial n m w) (place_of number rows) (place_of size rows) (workers_of rows)
-    (place_read number trial_shape.rules _ refl refl rows fit both.0)
-    (place_read size trial_shape.rules _ refl refl rows fit both.1)
-    (some_map or_one (option_of workers rows) (option_read workers trial_shape.rules _ refl refl rows fit))
+    (place_read number trial_shape.rules _ refl refl rows fit a.0)
+    (place_read size trial_shape.rules _ refl refl rows fit b.0)
+    (or_read workers trial_shape.rules _ refl refl 1 rows fit)
 
 batch_read : (words : List Text) → level_fault batch_shape [] nothing_held words false [] ≡ [] → is_some (batch_of (rows_after batch_shape.rules [] words)) ≡ true
 batch_read words none =
     let rows = rows_after batch_shape.rules [] words in
     let fit = rows_fit batch_shape batch_plain words none in
-    some_map (λ w. Batch w) (workers_of rows) (some_map or_one (option_of workers rows) (option_read workers batch_shape.rules _ refl refl rows fit))
+    some_map (λ w. Batch w) (workers_of rows) (or_read workers batch_shape.rules _ refl refl 1 rows fit)
+
+view_read : (words : List Text) → level_fault view_shape [] nothing_held words false [] ≡ [] → is_some (view_of (rows_after view_shape.rules [] words)) ≡ true
+view_read words none =
+    let rows = rows_after view_shape.rules [] words in
+    let fit = rows_fit view_shape view_plain words none in
+    let last : Bool = (not (is_given y1.name rows)) || false in
+    let third : Bool = (not (is_given x1.name rows)) || last in
+    let second : Bool = (not (is_given y0.name rows)) || third in
+    let first : Bool = (not (is_given x0.name rows)) || second in
+    let l = given_too (is_given level.name rows) first (checks view_shape view_plain words none) in
+    let a = given_too (is_given x0.name rows) second l.1 in
+    let b = given_too (is_given y0.name rows) third a.1 in
+    let c = given_too (is_given x1.name rows) last b.1 in
+    let d = given_too (is_given y1.name rows) false c.1 in
+    all_four (λ l b s w. view_by l b s w) (place_of level rows) (corners_of rows) (species_of rows) (workers_of rows)
+    (place_read level view_shape.rules _ refl refl rows fit l.0)
+    (all_four (λ a b c d. corners_by a b c d) (place_of x0 rows) (place_of y0 rows) (place_of x1 rows) (place_of y1 rows)
+    (place_read x0 view_shape.rules _ refl refl rows fit a.0)
+    (place_read y0 view_shape.rules _ refl refl rows fit b.0)
+    (place_read x1 view_shape.rules _ refl refl rows fit c.0)
+    (place_read y1 view_shape.rules _ refl refl rows fit d.0))
+    (or_read species view_shape.rules _ refl refl 0 rows fit)
+    (or_read workers view_shape.rules _ refl refl 1 rows fit)
 
 -- ---- the first word
 
@@ -198,31 +252,25 @@ module _ (rest : List Text) where
   batch_taken : IsTaken (codes "batch")
   batch_taken none = entered_as (codes "batch") refl (batch_read rest (entered_none (codes "batch") rest refl none))
 
-  named : (word : Text) → bytes_eq word (codes "run") || (bytes_eq word (codes "check") || (bytes_eq word (codes "show") || (bytes_eq word (codes "trial") || (bytes_eq word (codes "batch") || false)))) ≡ true → IsTaken word
-  named word h = by_run (or_cases _ _ h)
+  view_taken : IsTaken (codes "view")
+  view_taken none = entered_as (codes "view") refl (view_read rest (entered_none (codes "view") rest refl none))
+
+  named : (word : Text) → is_command_name word ≡ true → IsTaken word
+  named word h =
+      let view : Bool = bytes_eq word (codes "view") || false in
+      let batch : Bool = bytes_eq word (codes "batch") || view in
+      let trial : Bool = bytes_eq word (codes "trial") || batch in
+      let show : Bool = bytes_eq word (codes "show") || trial in
+      let check : Bool = bytes_eq word (codes "check") || show in
+      let by_view = either (codes "view") false view_taken (λ e. absurd (true≢false (sym e))) in
+      let by_trial = either (codes "trial") batch trial_taken (either (codes "batch") view batch_taken by_view) in
+      either (codes "run") check run_taken (either (codes "check") show check_taken (either (codes "show") trial show_taken by_trial)) h
     where
       is : (name : Text) → bytes_eq word name ≡ true → IsTaken name → IsTaken word
       is name e taken = subst IsTaken (sym ((bytes_eq-Decides word name).0 e)) taken
 
-      by_batch : (bytes_eq word (codes "batch") ≡ true) ⊎ (false ≡ true) → IsTaken word
-      by_batch (inl e) = is (codes "batch") e batch_taken
-      by_batch (inr e) = absurd (true≢false (sym e))
-
-      by_trial : (bytes_eq word (codes "trial") ≡ true) ⊎ (bytes_eq word (codes "batch") || false ≡ true) → IsTaken word
-      by_trial (inl e) = is (codes "trial") e trial_taken
-      by_trial (inr e) = by_batch (or_cases _ _ e)
-
-      by_show : (bytes_eq word (codes "show") ≡ true) ⊎ (bytes_eq word (codes "trial") || (bytes_eq word (codes "batch") || false) ≡ true) → IsTaken word
-      by_show (inl e) = is (codes "show") e show_taken
-      by_show (inr e) = by_trial (or_cases _ _ e)
-
-      by_check : (bytes_eq word (codes "check") ≡ true) ⊎ (bytes_eq word (codes "show") || (bytes_eq word (codes "trial") || (bytes_eq word (codes "batch") || false)) ≡ true) → IsTaken word
-      by_check (inl e) = is (codes "check") e check_taken
-      by_check (inr e) = by_show (or_cases _ _ e)
-
-      by_run : (bytes_eq word (codes "run") ≡ true) ⊎ (bytes_eq word (codes "check") || (bytes_eq word (codes "show") || (bytes_eq word (codes "trial") || (bytes_eq word (codes "batch") || false))) ≡ true) → IsTaken word
-      by_run (inl e) = is (codes "run") e run_taken
-      by_run (inr e) = by_check (or_cases _ _ e)
+      either : (name : Text) (others : Bool) → IsTaken name → (others ≡ true → IsTaken word) → bytes_eq word name || others ≡ true → IsTaken word
+      either name others taken more e = ⊎_elim (λ t. is name t taken) more (or_cases (bytes_eq word name) others e)
 
 taken : (words : List Text) → may_be_command words ≡ true → fault_of program_app words ≡ [] → is_some (command_from (subcommand_of program_app words)) ≡ true → is_some (command_of words) ≡ true
 taken words may none read = rw (may, none) read

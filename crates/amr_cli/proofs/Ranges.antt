@@ -4,10 +4,11 @@ use Rattle.std.specs.Str.{bytes_eq}
 use Rattle.std.proofs.lemmas.Bool.{and_parts}
 use Rattle.std.proofs.lemmas.Option.{cond_some, none-some, same_Some, IfSome_then, option_and_then_some}
 use Rattle.clap.specs.Words.{Row, Text, first_of}
-use Rattle.amr_cli.specs.Table.{NumberRow, deltas, keep, number, size, to, workers}
+use Rattle.amr_cli.specs.Table.{NumberRow, deltas, keep, level, number, size, species, to, workers, x0, x1, y0, y1}
 use Rattle.amr_cli.specs.Numbers.{in_range, number_of}
-use Rattle.amr_cli.specs.Words.{HasRanges, HasWorkers, batch_of, command_from, option_of, or_one, place_of, run_by, run_of, trial_of, workers_of}
+use Rattle.amr_cli.specs.Words.{AreShort, HasRanges, HasWorkers, batch_of, command_from, corners_by, corners_of, option_of, option_or, value_or, place_of, run_by, run_of, species_of, trial_of, view_by, view_of, workers_of}
 use Rattle.amr_cli.specs.declared.command.Command.{Command}
+use Rattle.amr_cli.specs.declared.command.Corners.{Corners}
 use Rattle.amr_cli.specs.declared.command.Command.TheVariants.{Check, Show, Trial, Batch}
 
 -- a number that was taken lies in the range
@@ -46,17 +47,21 @@ place_within place rows m is =
     option_and_then_some (λ (text : Text). option_and_then (in_range place.low place.high) (number_of text)) (first_of place.name rows) m is
     (λ text there read. option_and_then_some (in_range place.low place.high) (number_of text) m read (λ n number ranged. in_range_within place.low place.high n m ranged))
 
+-- so does the value of an option, or what stands for it where it is absent
+or_within : (absent : ℕ) (option : NumberRow) (rows : List Row) (n : ℕ) → option.low ≤ absent → absent ≤ option.high → option_or absent option rows ≡ Some n → (option.low ≤ n) × (n ≤ option.high)
+or_within absent option rows n low high is = valued (option_of option rows) refl is
+  where
+    valued : (value : Option (Option ℕ)) → option_of option rows ≡ value → option_map (value_or absent) value ≡ Some n → (option.low ≤ n) × (n ≤ option.high)
+    valued None from is = absurd (none-some n is)
+    valued (Some None) from is = let same = same_Some absent n is in (omega arith, omega arith)
+    valued (Some (Some m)) from is =
+        let within = option_within option rows m from in
+        let same = same_Some m n is in
+        (omega arith, omega arith)
+
 -- from 1 to 64 workers
 workers_within : (rows : List Row) (w : ℕ) → workers_of rows ≡ Some w → (1 ≤ w) × (w ≤ 64)
-workers_within rows w is = valued (option_of workers rows) refl is
-  where
-    valued : (value : Option (Option ℕ)) → option_of workers rows ≡ value → option_map or_one value ≡ Some w → (1 ≤ w) × (w ≤ 64)
-    valued None from is = absurd (none-some w is)
-    valued (Some None) from is = let one = same_Some 1 w is in (omega arith, omega arith)
-    valued (Some (Some n)) from is =
-        let within = option_within workers rows n from in
-        let same = same_Some n w is in
-        (omega arith, omega arith)
+workers_within rows w is = or_within 1 workers rows w (omega arith) (omega arith) is
 
 -- what a mapped option that is there was made of
 mapped_some : {A B P : Type 0} (f : A → B) (o : Option A) (y : B) → option_map f o ≡ Some y → ((x : A) → o ≡ Some x → f x ≡ y → P) → P
@@ -90,15 +95,40 @@ trial_has command rows is =
 batch_has : (command : Command) (rows : List Row) → batch_of rows ≡ Some command → Has command
 batch_has command rows is = mapped_some (λ (w : ℕ). Batch w) (workers_of rows) command is (λ w w_is made. subst Has made (workers_within rows w w_is, tt))
 
+corners_short : (b : Corners) (rows : List Row) → corners_of rows ≡ Some b → AreShort b
+corners_short b rows is =
+    let last = λ (x y z : ℕ). option_map (λ (w : ℕ). corners_by x y z w) (place_of y1 rows) in
+    let third = λ (x y : ℕ). option_and_then (last x y) (place_of x1 rows) in
+    let second = λ (x : ℕ). option_and_then (third x) (place_of y0 rows) in
+    option_and_then_some second (place_of x0 rows) b is
+    (λ x x_is rest. option_and_then_some (third x) (place_of y0 rows) b rest
+    (λ y y_is more. option_and_then_some (last x y) (place_of x1 rows) b more
+    (λ z z_is end. mapped_some (λ (w : ℕ). corners_by x y z w) (place_of y1 rows) b end
+    (λ w w_is made. subst AreShort made
+    ((place_within x0 rows x x_is).1, (place_within y0 rows y y_is).1, (place_within x1 rows z z_is).1, (place_within y1 rows w w_is).1)))))
+
+view_has : (command : Command) (rows : List Row) → view_of rows ≡ Some command → Has command
+view_has command rows is =
+    let last = λ (l : ℕ) (b : Corners) (s : ℕ). option_map (λ (w : ℕ). view_by l b s w) (workers_of rows) in
+    let third = λ (l : ℕ) (b : Corners). option_and_then (last l b) (species_of rows) in
+    let second = λ (l : ℕ). option_and_then (third l) (corners_of rows) in
+    option_and_then_some second (place_of level rows) command is
+    (λ l l_is rest. option_and_then_some (third l) (corners_of rows) command rest
+    (λ b b_is more. option_and_then_some (last l b) (species_of rows) command more
+    (λ s s_is end. mapped_some (λ (w : ℕ). view_by l b s w) (workers_of rows) command end
+    (λ w w_is made. subst Has made
+    (workers_within rows w w_is, ((place_within level rows l l_is).1, corners_short b rows b_is, (or_within 0 species rows s (omega arith) (omega arith) s_is).1))))))
+
 -- what was found in the words is a command whose numbers lie in their ranges
 pub found_has : (command : Command) (found : Option (Text × List Row)) → command_from found ≡ Some command → Has command
 found_has command None is = absurd (none-some command is)
-found_has command (Some found) is = named (bytes_eq found.0 (codes "run")) (bytes_eq found.0 (codes "check")) (bytes_eq found.0 (codes "show")) (bytes_eq found.0 (codes "trial")) (bytes_eq found.0 (codes "batch")) is
+found_has command (Some found) is = named (bytes_eq found.0 (codes "run")) (bytes_eq found.0 (codes "check")) (bytes_eq found.0 (codes "show")) (bytes_eq found.0 (codes "trial")) (bytes_eq found.0 (codes "batch")) (bytes_eq found.0 (codes "view")) is
   where
-    named : (run check show trial batch : Bool) → cond run (run_of found.1) (cond check (Some Check) (cond show (Some Show) (cond trial (trial_of found.1) (cond batch (batch_of found.1) None)))) ≡ Some command → Has command
-    named true check show trial batch is = run_has command found.1 is
-    named false true show trial batch is = subst Has (same_Some Check command is) (tt, tt)
-    named false false true trial batch is = subst Has (same_Some Show command is) (tt, tt)
-    named false false false true batch is = trial_has command found.1 is
-    named false false false false true is = batch_has command found.1 is
-    named false false false false false is = absurd (none-some command is)
+    named : (run check show trial batch view : Bool) → cond run (run_of found.1) (cond check (Some Check) (cond show (Some Show) (cond trial (trial_of found.1) (cond batch (batch_of found.1) (cond view (view_of found.1) None))))) ≡ Some command → Has command
+    named true check show trial batch view is = run_has command found.1 is
+    named false true show trial batch view is = subst Has (same_Some Check command is) (tt, tt)
+    named false false true trial batch view is = subst Has (same_Some Show command is) (tt, tt)
+    named false false false true batch view is = trial_has command found.1 is
+    named false false false false true view is = batch_has command found.1 is
+    named false false false false false true is = view_has command found.1 is
+    named false false false false false false is = absurd (none-some command is)

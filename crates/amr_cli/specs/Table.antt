@@ -38,6 +38,31 @@ number = record { name = codes "number"; low = 0; high = 4294967295 }
 abbrev pub size : NumberRow
 size = record { name = codes "size"; low = 8; high = 256 }
 
+-- the level that a view is of
+abbrev pub level : NumberRow
+level = record { name = codes "level"; low = 0; high = 4 }
+
+-- a column or a row of the box that a view is of
+abbrev pub coordinate : List ℕ → NumberRow
+coordinate name = record { name = name; low = 0; high = 4095 }
+
+-- the box's first column and row, and its last
+abbrev pub x0 : NumberRow
+x0 = coordinate (codes "x0")
+
+abbrev pub y0 : NumberRow
+y0 = coordinate (codes "y0")
+
+abbrev pub x1 : NumberRow
+x1 = coordinate (codes "x1")
+
+abbrev pub y1 : NumberRow
+y1 = coordinate (codes "y1")
+
+-- the species that is seen
+abbrev pub species : NumberRow
+species = record { name = codes "species"; low = 0; high = 3 }
+
 abbrev pub commands : List CommandRow
 commands =
     record { name = codes "run"; places = []; options = workers ∷ to ∷ keep ∷ deltas ∷ [] }
@@ -45,4 +70,5 @@ commands =
     ∷ record { name = codes "show"; places = []; options = [] }
     ∷ record { name = codes "trial"; places = number ∷ size ∷ []; options = workers ∷ [] }
     ∷ record { name = codes "batch"; places = []; options = workers ∷ [] }
+    ∷ record { name = codes "view"; places = level ∷ x0 ∷ y0 ∷ x1 ∷ y1 ∷ []; options = species ∷ workers ∷ [] }
     ∷ []

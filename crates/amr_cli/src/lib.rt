@@ -14,7 +14,7 @@ mod program;
 mod table;
 mod words;
 
-pub use command::{Command, RunOptions};
+pub use command::{Command, Corners, RunOptions, ViewOptions};
 pub use laws::{numbers_are_read_alike, usage_has_no_other_cause};
 pub use line::Line;
 pub use words::{CliFault, parse};

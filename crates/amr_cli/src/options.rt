@@ -2,11 +2,13 @@
 ghost use Rattle.std.specs.Prelude.{◌≡◌, ◌<◌, ◌^◌, option_map};
 ghost use Rattle.clap.specs.Words.{first_of, found_of, rows_of, subcommand_rows_of};
 ghost use Rattle.amr_cli.specs.Rows.{number_row};
-ghost use Rattle.amr_cli.specs.Words.{batch_of, command_from, option_of, place_of, run_of, trial_of, workers_of};
+ghost use Rattle.amr_cli.specs.Words.{batch_of, command_from, corners_of, option_of, option_or, place_of, run_of, trial_of, view_of};
 
 use crate::number::number_between;
-use crate::table::{DELTAS, KEEP, NUMBER, NumberForm, SIZE, TO, WORKERS};
-use crate::{Command, RunOptions};
+use crate::table::{
+    DELTAS, KEEP, LEVEL, NUMBER, NumberForm, SIZE, SPECIES, TO, WORKERS, X0, X1, Y0, Y1,
+};
+use crate::{Command, Corners, RunOptions, ViewOptions};
 use clap::ArgMatches;
 
 /// The command that was found, with its numbers. None where a text is no number in its range.
@@ -20,6 +22,7 @@ pub(crate) fn command_from(matches: &ArgMatches) -> Option<Command>
         "show" => Some(Command::Show),
         "trial" => trial_from(found),
         "batch" => batch_from(found),
+        "view" => view_from(found),
         _ => None,
     }
 }
@@ -27,7 +30,7 @@ pub(crate) fn command_from(matches: &ArgMatches) -> Option<Command>
 fn run_from(matches: &ArgMatches) -> Option<Command>
     ensures { result ≡ run_of (rows_of (found_of matches.now)) }
 {
-    let workers = workers_from(matches)?;
+    let workers = option_or(matches, &WORKERS, 1)?;
     let to = option_from(matches, &TO)?;
     let keep = option_from(matches, &KEEP)?;
     let deltas = option_from(matches, &DELTAS)?;
@@ -44,7 +47,7 @@ fn trial_from(matches: &ArgMatches) -> Option<Command>
 {
     let number = place_from(matches, &NUMBER)?;
     let size = place_from(matches, &SIZE)?;
-    let workers = workers_from(matches)?;
+    let workers = option_or(matches, &WORKERS, 1)?;
     Some(Command::Trial {
         number,
         size,
@@ -55,15 +58,41 @@ fn trial_from(matches: &ArgMatches) -> Option<Command>
 fn batch_from(matches: &ArgMatches) -> Option<Command>
     ensures { result ≡ batch_of (rows_of (found_of matches.now)) }
 {
-    let workers = workers_from(matches)?;
+    let workers = option_or(matches, &WORKERS, 1)?;
     Some(Command::Batch { workers })
 }
 
-// The number of workers, 1 where none is given.
-fn workers_from(matches: &ArgMatches) -> Option<u32>
-    ensures { result ≡ workers_of (rows_of (found_of matches.now)) }
+fn corners_from(matches: &ArgMatches) -> Option<Corners>
+    ensures { result ≡ corners_of (rows_of (found_of matches.now)) }
 {
-    Some(option_from(matches, &WORKERS)?.unwrap_or(1))
+    let x0 = place_from(matches, &X0)?;
+    let y0 = place_from(matches, &Y0)?;
+    let x1 = place_from(matches, &X1)?;
+    let y1 = place_from(matches, &Y1)?;
+    Some(Corners { x0, y0, x1, y1 })
+}
+
+fn view_from(matches: &ArgMatches) -> Option<Command>
+    ensures { result ≡ view_of (rows_of (found_of matches.now)) }
+{
+    let level = place_from(matches, &LEVEL)?;
+    let corners = corners_from(matches)?;
+    let species = option_or(matches, &SPECIES, 0)?;
+    let workers = option_or(matches, &WORKERS, 1)?;
+    Some(Command::View(ViewOptions {
+        level,
+        corners,
+        species,
+        workers,
+    }))
+}
+
+// The value of an option, and this number where none is given. None where its text is no number in its range.
+fn option_or(matches: &ArgMatches, option: &NumberForm, absent: u32) -> Option<u32>
+    requires { option.now.high < 2 ^ 32 }
+    ensures { result ≡ option_or absent (number_row option.now) (rows_of (found_of matches.now)) }
+{
+    Some(option_from(matches, option)?.unwrap_or(absent))
 }
 
 // The value of an option that may be absent. None where its text is no number in its range.

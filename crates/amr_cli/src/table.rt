@@ -60,7 +60,49 @@ pub(crate) const SIZE: NumberForm = NumberForm {
     high: 256,
 };
 
-const COMMANDS: [CommandForm; 5] = [
+/// The level that a view is of.
+pub(crate) const LEVEL: NumberForm = NumberForm {
+    name: "level",
+    low: 0,
+    high: 4,
+};
+
+/// The first column of a view.
+pub(crate) const X0: NumberForm = NumberForm {
+    name: "x0",
+    low: 0,
+    high: 4095,
+};
+
+/// The first row of a view.
+pub(crate) const Y0: NumberForm = NumberForm {
+    name: "y0",
+    low: 0,
+    high: 4095,
+};
+
+/// The last column of a view.
+pub(crate) const X1: NumberForm = NumberForm {
+    name: "x1",
+    low: 0,
+    high: 4095,
+};
+
+/// The last row of a view.
+pub(crate) const Y1: NumberForm = NumberForm {
+    name: "y1",
+    low: 0,
+    high: 4095,
+};
+
+/// The species that is seen.
+pub(crate) const SPECIES: NumberForm = NumberForm {
+    name: "species",
+    low: 0,
+    high: 3,
+};
+
+const COMMANDS: [CommandForm; 6] = [
     CommandForm {
         name: "run",
         places: &[],
@@ -85,6 +127,11 @@ const COMMANDS: [CommandForm; 5] = [
         name: "batch",
         places: &[],
         options: &[WORKERS],
+    },
+    CommandForm {
+        name: "view",
+        places: &[LEVEL, X0, Y0, X1, Y1],
+        options: &[SPECIES, WORKERS],
     },
 ];
 

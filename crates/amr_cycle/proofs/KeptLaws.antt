@@ -16,7 +16,7 @@ use Rattle.amr_patch.specs.Levels.{level_of, patches_of}
 use Rattle.amr_patch.specs.Patches.{box, masses_in}
 use Rattle.amr_alike.proofs.SameBoxes.{some_in_boxes}
 use Rattle.amr_register.specs.declared.register.Register.{Register}
-use Rattle.amr_register.specs.Registers.{HasEdgesOf, SameCells}
+use Rattle.amr_register.specs.Fields.{HasEdgesOf, SameCells}
 use Rattle.amr_register.proofs.SameCells.{edges_kept, register_kept, same_register}
 use Rattle.amr_cycle.specs.declared.kept.KeptBelow.{KeptBelow}
 use Rattle.amr_cycle.specs.declared.kept.KeptLevel.{KeptLevel}

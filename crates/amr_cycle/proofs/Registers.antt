@@ -15,7 +15,7 @@ use Rattle.amr_patch.specs.declared.levels.Level.{Level as Held}
 use Rattle.amr_patch.specs.Levels.{level_of}
 use Rattle.amr_register.specs.declared.register.Register.{Register}
 use Rattle.amr_register.specs.RegisterCells.{register_cells}
-use Rattle.amr_register.specs.Registers.{HasEdgesOf, IsPlaced, IsRegisterOf, entry_in}
+use Rattle.amr_register.specs.Fields.{HasEdgesOf, IsPlaced, IsRegisterOf, entry_in}
 use Rattle.amr_register.proofs.SameCells.{edges_kept, no_entry, of_covered, register_kept, small_entries}
 use Rattle.amr_flows.specs.Words.{child_flows}
 use Rattle.amr_flows.specs.Subcycle.{AreGathered, CoverAlike, children_part, edge_part}

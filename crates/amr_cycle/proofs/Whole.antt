@@ -21,7 +21,7 @@ use Rattle.amr_patch.specs.Levels.{level_of, patches_of}
 use Rattle.amr_ghost.specs.Frames.{old_masses}
 use Rattle.amr_register.specs.declared.register.Register.{Register}
 use Rattle.amr_register.specs.Entries.{with_entries}
-use Rattle.amr_register.specs.Registers.{IsPlaced}
+use Rattle.amr_register.specs.Fields.{IsPlaced}
 use Rattle.amr_register.specs.RegisterCells.{register_cells}
 use Rattle.amr_transfer.specs.Sums.{AreCoarsenable, summed}
 use Rattle.amr_flows.specs.Subcycle.{AreGathered, CoverAlike, children_part, edge_part, flows_of_step}

@@ -13,7 +13,7 @@ use Rattle.amr_patch.specs.declared.levels.Level.{Level as Held}
 use Rattle.amr_patch.specs.Levels.{patches_of}
 use Rattle.amr_patch.specs.Patches.{box}
 use Rattle.amr_register.specs.declared.register.Register.{Register}
-use Rattle.amr_register.specs.Registers.{IsRegisterOf, cells_in, entry_in}
+use Rattle.amr_register.specs.Fields.{IsRegisterOf, cells_in, entry_in}
 use Rattle.amr_transfer.specs.Sums.{AreCoarsenable}
 
 -- ---- levels

@@ -7,7 +7,7 @@ use Rattle.amr_def.specs.State.{Level, Masses, no_level}
 use Rattle.amr_patch.specs.declared.levels.Level.{Level as Held}
 use Rattle.amr_patch.specs.Levels.{level_of, patches_of}
 use Rattle.amr_patch.specs.Patches.{box}
-use Rattle.amr_register.specs.Registers.{HasEdgesOf, IsRegisterOf}
+use Rattle.amr_register.specs.Fields.{HasEdgesOf, IsRegisterOf}
 use Rattle.amr_advance.specs.Kept.{IsKeptOf}
 use Rattle.amr_cycle.specs.declared.kept.Kept.{Kept}
 use Rattle.amr_cycle.specs.declared.kept.KeptBelow.{KeptBelow}

@@ -13,7 +13,7 @@ use Rattle.amr_patch.specs.Levels.{level_of, patches_of}
 use Rattle.amr_patch.specs.Patches.{box}
 use Rattle.amr_ghost.specs.Frames.{old_masses}
 use Rattle.amr_register.specs.declared.register.Register.{Register}
-use Rattle.amr_register.specs.Registers.{HasEdgesOf}
+use Rattle.amr_register.specs.Fields.{HasEdgesOf}
 use Rattle.amr_flows.specs.Subcycle.{edge_part, flows_of_step}
 use Rattle.amr_advance.specs.declared.regs.Regs.{Regs}
 use Rattle.amr_advance.specs.Registers.{BothChange, HasCoarser, gained}

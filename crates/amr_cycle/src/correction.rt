@@ -8,7 +8,7 @@ ghost use Rattle.amr_def.specs.State.{children_mass, mass_of};
 ghost use Rattle.amr_patch.specs.Levels.{level_of, patches_of};
 ghost use Rattle.amr_patch.specs.Patches.{box};
 ghost use Rattle.amr_register.specs.Entries.{with_entries};
-ghost use Rattle.amr_register.specs.Registers.{HasEdgesOf, IsPlaced};
+ghost use Rattle.amr_register.specs.Fields.{HasEdgesOf, IsPlaced};
 ghost use Rattle.amr_advance.specs.Kept.{IsKeptLayout, StaysKept};
 ghost use Rattle.amr_advance.specs.Registers.{cells_of};
 ghost use Rattle.amr_advance.specs.Crews.{MayRun};

@@ -7,7 +7,7 @@ ghost use Rattle.amr_def.specs.Facts.{IsLevel, IsNestedLevel};
 ghost use Rattle.amr_def.specs.State.{Level as StateLevel};
 ghost use Rattle.amr_patch.specs.Levels.{level_of, patches_of};
 ghost use Rattle.amr_patch.specs.Patches.{box};
-ghost use Rattle.amr_register.specs.Registers.{SameCells, entry_in};
+ghost use Rattle.amr_register.specs.Fields.{SameCells, entry_in};
 ghost use Rattle.amr_advance.specs.Kept.{IsKeptLayout, StaysKept};
 ghost use Rattle.amr_advance.specs.Crews.{MayRun};
 ghost use Rattle.amr_cycle.specs.Kept.{AreKept, HasBoxesOf, IsBelow, IsKeptFor, IsOnSameBoxes};

@@ -1,4 +1,4 @@
--- A level over the one below it, and several, read one after another.
+-- A level over the next coarser one, and several, read one after another.
 use Rattle.std.proofs.Common.{◌≡◌, ℕ, suc, ◌+◌, ◌-◌, ◌<◌, Bool, ◌&&◌, List, [], add-one, refl, sym, ap, subst, ◌∙◌}
 use Rattle.std.specs.Int.{w8}
 use Rattle.amr_def.specs.declared.problem.Problem.{Problem}

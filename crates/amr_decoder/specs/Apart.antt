@@ -9,7 +9,7 @@ use Rattle.amr_tags.specs.TagSets.{TagSet, has}
 use Rattle.amr_decoder.specs.declared.grid.Grid.{Grid}
 use Rattle.amr_decoder.specs.Grids.{boxes_of}
 
--- boxes with the places of their masses, in the order of reading, and the domain of the level below as a box
+-- boxes with the places of their masses, in the order of reading, and the domain of the next coarser level as a box
 pub record Earlier : Type 0 where
   pub grids : List Grid
   pub below : Extent
@@ -22,7 +22,7 @@ newest_first gs = reverse (boxes_of gs)
 pub record AreParents (boxes : List Extent) (t : TagSet) : Type 0 where
   pub at : (c : Cell) → has t c ≡ (holds t.bx c && in_boxes (map parents_of boxes) c)
 
--- a box has all children of each parent of its cells, and the parents are of the level below
+-- a box has all children of each parent of its cells, and the parents are of the next coarser level
 pub record IsOverParents (below b : Extent) : Type 0 where
   pub west : half b.lo.x +ℤ half b.lo.x ≡ b.lo.x
   pub south : half b.lo.y +ℤ half b.lo.y ≡ b.lo.y

@@ -37,7 +37,7 @@ impl Model for Apart {
 }
 
 impl Apart {
-    /// No boxes; `below` is the domain of the level below theirs.
+    /// No boxes; `below` is the domain of the next coarser level theirs.
     pub fn make(alloc: Global, below: &Dom) -> Result<Apart, NoMemory>
         ensures none { IfOk result (λ a. a.grids ≡ []) }
         ensures below { IfOk result (λ a. a.below ≡ domain_box (domain_of below.now)) }

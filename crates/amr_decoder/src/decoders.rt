@@ -84,7 +84,7 @@ fn read_payload(
 /// The mesh whose payload 1 the bytes are: masses of 8 bytes. Its state is sound, and its patches have at most
 /// `max_grid_size` by `max_grid_size` cells. `Bad` is at the place of the first test that fails, and no sound state has
 /// such bytes. Memory is taken only for rows, boxes and masses that were read whole. Above level 0, whose masses were
-/// read then, it is taken for two bits at a time for each cell of the domain of the level below.
+/// read then, it is taken for two bits at a time for each cell of the domain of the next coarser level.
 pub fn decode(alloc: Global, p: &Problem, bytes: &[u8]) -> Result<Mesh, CodecFault>
     ensures bytes { IfOk result (λ mesh. bytes.now ≡ payload w64 (state_of mesh)) }
     ensures sound { IfOk result (λ mesh. IsSound p.now (state_of mesh)) }
@@ -99,7 +99,7 @@ pub fn decode(alloc: Global, p: &Problem, bytes: &[u8]) -> Result<Mesh, CodecFau
 /// The mesh whose payload 2 the bytes are: masses of 4 bytes. Its state is sound, and its patches have at most
 /// `max_grid_size` by `max_grid_size` cells. `Bad` is at the place of the first test that fails, and no sound state has
 /// such bytes. Memory is taken only for rows, boxes and masses that were read whole. Above level 0, whose masses were
-/// read then, it is taken for two bits at a time for each cell of the domain of the level below.
+/// read then, it is taken for two bits at a time for each cell of the domain of the next coarser level.
 pub fn decode2(alloc: Global, p: &Problem, bytes: &[u8]) -> Result<Mesh, CodecFault>
     ensures bytes { IfOk result (λ mesh. bytes.now ≡ payload w32 (state_of mesh)) }
     ensures sound { IfOk result (λ mesh. IsSound p.now (state_of mesh)) }

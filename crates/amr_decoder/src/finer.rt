@@ -1,4 +1,4 @@
-//! The levels of a payload: level 0, and each finer one over the one below it.
+//! The levels of a payload: level 0, and each finer one over the next coarser one.
 
 ghost use Rattle.std.specs.Prelude.{◌≡◌, ◌+◌, ◌≤◌, length, map, IfOk, IfErr};
 ghost use Rattle.std.specs.List.{All};

@@ -82,7 +82,7 @@ fn read_grid(
     Ok(Grid { bx, masses })
 }
 
-/// No boxes of level `l`. Level 0 has one box, which is compared with none, and no level below. The least domain stands
+/// No boxes of level `l`. Level 0 has one box, which is compared with none, and no coarser level. The least domain stands
 /// for that, so that next to no memory is taken before its masses are read.
 fn none_of_level(alloc: Global, p: &Problem, l: u32) -> Result<Apart, NoMemory>
     requires { l ≤ 4 }
@@ -103,7 +103,7 @@ fn none_of_level(alloc: Global, p: &Problem, l: u32) -> Result<Apart, NoMemory>
 }
 
 /// `count` boxes with their masses, each apart from the earlier ones. Memory is taken as they are read, and above level 0 for
-/// two bits for each cell of the domain of the level below.
+/// two bits for each cell of the domain of the next coarser level.
 pub(crate) fn read_grids(
     alloc: Global,
     p: &Problem,

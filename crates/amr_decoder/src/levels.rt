@@ -1,4 +1,4 @@
-//! Levels: each read, tested against the one below it, and held in patches.
+//! Levels: each read, tested against the next coarser one, and held in patches.
 
 ghost use Rattle.std.specs.Prelude.{◌≡◌, ◌^◌, ◌<◌, ◌≤◌, [], ◌∷◌, map, IfOk, IfErr};
 ghost use Rattle.std.specs.List.{All};
@@ -56,7 +56,7 @@ pub(crate) fn is_between(k: u64, high: u64) -> bool
 }
 
 /// Whether level `l` may have so many boxes. That is one at level 0. At a finer level it is at most one for each four
-/// cells of its domain, as many as the domain of the level below has.
+/// cells of its domain, as many as the domain of the next coarser level has.
 fn is_box_count(p: &Problem, l: u32, k: u32) -> bool
     requires { l ≤ 4 }
     ensures { result ≡ is_box_count p.now l k }
@@ -90,7 +90,7 @@ fn level_of_grids(
 /// Level `kind.level`: the number of its boxes, and the boxes with their masses by a form, in patches of at most `max_grid_size`
 /// by `max_grid_size` cells. The reader then stands behind it. `Bad` is at the place of the first test that fails.
 /// Memory is taken only for boxes and masses that were read whole, whatever their number is said to be. Above level 0
-/// it is taken for two bits for each cell of the domain of the level below.
+/// it is taken for two bits for each cell of the domain of the next coarser level.
 #[tactic(auto, unfolding(amr_payload::specs::Tests::read_level))]
 pub fn read_level(
     alloc: Global,

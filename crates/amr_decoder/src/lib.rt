@@ -7,8 +7,8 @@
 //! - [`Reader`]: the bytes that are left, number by number.
 //! - [`read_step`], [`read_ledger`]: the step and the ledger.
 //! - [`read_level`]: a level's boxes, and their masses in patches.
-//! - [`stands_over`]: whether a level is nested in the one below it and in sync with it.
-//! - [`read_finer`], [`read_levels`]: a level over the one below it, and all levels.
+//! - [`stands_over`]: whether a level is nested in the next coarser one and in sync with it.
+//! - [`read_finer`], [`read_levels`]: a level over the next coarser one, and all levels.
 #![tactic(auto)]
 
 mod apart;

@@ -1,4 +1,4 @@
-//! Whether a level stands over the one below it: nested in it, and in sync with it.
+//! Whether a level stands over the next coarser one: nested in it, and in sync with it.
 
 ghost use Rattle.std.specs.Prelude.{◌≡◌, ◌&&◌, ◌+◌, ◌≤◌, IfOk};
 ghost use Rattle.std.specs.List.{All};

@@ -18,7 +18,7 @@ use Rattle.amr_def.specs.Domain.{domain, domain_box, in_domain, is_inside, colum
 use Rattle.amr_def.specs.State.{Level, State, level_at, mass_of}
 use Rattle.amr_def.specs.Tags.{is_tagged}
 use Rattle.amr_def.specs.NewBoxes.{new_boxes}
-use Rattle.amr_def.specs.Regrid.{regrid, regridded_levels, refill}
+use Rattle.amr_def.specs.Regrid.{regrid, regridded_levels, refill, regrid_by}
 use Rattle.amr_def.specs.Run.{block_extent, block_mass, base_level, plain_start, start, stepped, next, regrid_is_due, times, finish, run}
 use Rattle.amr_def.specs.Facts.{IsLevel, IsSmallRow, IsSound, growth}
 use Rattle.amr_def.proofs.Runs.{step-next}
@@ -119,7 +119,7 @@ plain_start-sound p = record {
 -- ---- runs, where regrids keep states sound
 
 pub regrid_step : (p : Problem) (s : State) → (regrid p s).step ≡ s.step
-unfolding regrid
+unfolding regrid regrid_by
 regrid_step p s = refl
 
 abbrev pub RegridKeeps : Problem → Type 0
@@ -157,7 +157,7 @@ module _ (p : Problem) (keeps : RegridKeeps p) where
 -- ---- one level
 
 pub alone : (p : Problem) (n : ℕ) (rs : List Row) (ks : List Level) → p.max_level ≡ 0 → length ks ≤ 1 → regrid p (record { step = n; rows = rs; levels = ks }) ≡ record { step = n; rows = rs; levels = ks }
-unfolding regrid refill new_boxes
+unfolding regrid regrid_by refill new_boxes
 alone p n rs [] e h = refl
 alone p n rs (k ∷ []) e h =
     let none : min 1 p.max_level ≡ 0 = omega (arith, e) in

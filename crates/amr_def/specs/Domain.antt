@@ -16,7 +16,7 @@ pub record Domain : Type 0 where
   pub wrap_x : Bool
   pub wrap_y : Bool
 
--- how many columns and rows a level has: twice those of the level below it (Berger and Colella)
+-- how many columns and rows a level has: twice those of the next coarser one (Berger and Colella)
 abbrev pub columns : Problem → ℕ → ℕ
 columns p l = p.nx * 2 ^ l
 

@@ -40,7 +40,7 @@ over_finer p l m old fine first second =
     let e : Fluxes = effective p l m old fine first.fluxes second.fluxes in
     record { levels = updated m e ∷ second.levels; fluxes = e }
 
--- a step of at most n levels, from l on, the coarsest first; `old` is what the level below l held at
+-- a step of at most n levels, from l on, the coarsest first; `old` is what the next coarser one than l held at
 -- the start of its step. The second of the finer steps is made from what the first left, and both take
 -- their ghost cells from the coarser masses before the step.
 unfoldable pub step_within : Problem → ℕ → ℕ → List Masses → Masses → Stepped

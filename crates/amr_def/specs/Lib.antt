@@ -1,4 +1,6 @@
 pub mod Limits
+pub mod OneSpecies
+pub mod SpeciesLimits
 pub mod Domain
 pub mod State
 pub mod Value
@@ -13,5 +15,7 @@ pub mod NewBoxes
 pub mod Regrid
 pub mod Run
 pub mod Facts
+pub mod Species
 pub mod Plot
+pub mod View
 pub mod Laws

@@ -1,5 +1,5 @@
 -- The limits of a problem's numbers and lists. (profile)
-use Rattle.std.specs.Prelude.{◌≡◌, ℕ, ◌+◌, ◌/◌, ◌%◌, ◌^◌, ◌≤◌, max, Bool, true, ◌&&◌, ◌||◌, ◌==◌, nat_lt, nat_le, ℤ, unsigned_abs, List, [], ◌∷◌, length}
+use Rattle.std.specs.Prelude.{◌≡◌, if◌then◌else◌, ℕ, ◌+◌, ◌/◌, ◌%◌, ◌^◌, ◌≤◌, max, Bool, true, ◌&&◌, ◌||◌, ◌==◌, nat_lt, nat_le, ℤ, unsigned_abs, List, [], ◌∷◌, length}
 use Rattle.std.specs.List.{list_all}
 use Rattle.amr_def.specs.declared.problem.Sides.{Sides}
 use Rattle.amr_def.specs.declared.problem.Sides.TheVariants.{Periodic, Open}
@@ -42,15 +42,23 @@ is_shear n cs = ((length cs == 0) || (length cs == n)) && nat_le (greatest_size 
 abbrev pub is_block : ℕ → ℕ → Block → Bool
 is_block nx ny b = nat_le b.x0 b.x1 && nat_lt b.x1 nx && nat_le b.y0 b.y1 && nat_lt b.y1 ny && nat_le b.mass greatest_given
 
+-- the mass is of one of so many species
+abbrev pub is_of_species_below : ℕ → Block → Bool
+is_of_species_below n b = nat_lt b.species n
+
+-- how many species a problem of a version may have
+abbrev pub most_species : ℕ → ℕ
+most_species version = if nat_le version 2 then 1 else 4
+
 abbrev pub is_blocking : ℕ → Bool
 is_blocking b = (b == 2) || (b == 4) || (b == 8)
 
 -- ---- the limits
 
 pub record Limits (version : ℕ) (name : List ℕ) (nx ny steps : ℕ) (cx cy : ℤ) (d : ℕ) (shear_x shear_y : List ℤ) (x_sides y_sides : Sides) (max_level : ℕ)
-    (tag : List ℕ) (n_error_buf efficiency min_width regrid_int blocking max_grid_size : ℕ) (blocks : List Block) : Type 0 where
+    (tag : List ℕ) (n_error_buf efficiency min_width regrid_int blocking max_grid_size : ℕ) (blocks : List Block) (species : ℕ) : Type 0 where
   pub first_version : 1 ≤ version
-  pub last_version : version ≤ 2
+  pub last_version : version ≤ 3
   pub named : 1 ≤ length name
   pub short_name : length name ≤ 32
   pub name_bytes : list_all is_name_byte name ≡ true
@@ -88,6 +96,9 @@ pub record Limits (version : ℕ) (name : List ℕ) (nx ny steps : ℕ) (cx cy :
   pub even_max_grid_size : max_grid_size % 2 ≡ 0
   pub block_count : length blocks ≤ 256
   pub blocks_inside : list_all (is_block nx ny) blocks ≡ true
+  pub some_species : 1 ≤ species
+  pub few_species : species ≤ most_species version
+  pub blocks_species : list_all (is_of_species_below species) blocks ≡ true
 
 -- of the domain of a level
 pub record DomainLimits (l nx ny : ℕ) : Type 0 where

@@ -1,5 +1,5 @@
 -- A regrid: new boxes above level 0, and the masses of their cells. (Berger and Colella; child shares: profile)
-use Rattle.std.specs.Prelude.{ℕ, ◌+◌, ◌*◌, ◌/◌, ◌%◌, min, cond, ℤ, pos, List, [], ◌∷◌, length, nat_lt, unsigned_abs}
+use Rattle.std.specs.Prelude.{ℕ, Bool, ◌+◌, ◌*◌, ◌/◌, ◌%◌, min, cond, ℤ, pos, List, [], ◌∷◌, length, nat_lt, unsigned_abs}
 use Rattle.std.specs.declared.option.Option.TheVariants.{None, Some}
 use Rattle.std.specs.Option.{unwrap_or}
 use Rattle.std.specs.Int.{int_rem_euclid}
@@ -55,5 +55,10 @@ regridded_levels (base ∷ olds) boxes = base ∷ refill base.masses olds boxes
 abbrev pub new_level_count : Problem → State → ℕ
 new_level_count p s = min (length s.levels) p.max_level
 
+-- by the tags of each level
+unfoldable pub regrid_by : Problem → (ℕ → Cell → Bool) → State → State
+regrid_by p tagged s = record { step = s.step; rows = s.rows; levels = regridded_levels s.levels (new_boxes p tagged (new_level_count p s) 0) }
+
+-- by its own tags
 unfoldable pub regrid : Problem → State → State
-regrid p s = record { step = s.step; rows = s.rows; levels = regridded_levels s.levels (new_boxes p (is_tagged p s) (new_level_count p s) 0) }
+regrid p s = regrid_by p (is_tagged p s) s

@@ -34,7 +34,7 @@ no_level = record { boxes = []; masses = no_masses }
 abbrev pub level_at : State → ℕ → Level
 level_at s l = slice_index_or s.levels l no_level
 
--- the masses of the level below, none below level 0
+-- the masses of the next coarser level, none below level 0
 abbrev pub masses_below : State → ℕ → Masses
 masses_below s zero = no_masses
 masses_below s (suc l) = (level_at s l).masses

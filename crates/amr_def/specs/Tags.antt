@@ -16,7 +16,7 @@ abbrev pub differs_by : ℕ → ℕ → ℕ → Bool
 differs_by t a b = nat_le t ((a - b) + (b - a))
 
 -- a cell of the level with a neighbour in the domain whose value differs by the threshold or more;
--- `coarse` are the masses of the level below
+-- `coarse` are the masses of the next coarser level
 unfoldable pub is_tagged_by : Problem → ℕ → Masses → Masses → Cell → Bool
 is_tagged_by p l m coarse c =
     let value : Cell → ℕ = value_at p l m coarse in

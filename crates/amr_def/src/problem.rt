@@ -16,7 +16,7 @@ pub enum Sides {
 }
 
 /// A rectangle of cells of level 0, from column `x0` to `x1` and from row `y0` to `y1`, both inside,
-/// each of which starts with `mass`.
+/// each of which starts with `mass` of a species.
 #[derive(Clone, Copy, Debug, PartialEq, Eq)]
 pub struct Block {
     pub x0: u32,
@@ -24,6 +24,8 @@ pub struct Block {
     pub x1: u32,
     pub y1: u32,
     pub mass: u64,
+    /// Of which species the mass is, from 0 on.
+    pub species: u32,
 }
 
 /// A row of the ledger: the mass of level 0 after a step, and what flowed in the step into the domain
@@ -38,7 +40,7 @@ pub struct Row {
 /// What is computed: the keys of a problem file, within their limits.
 #[derive(Debug, Drop)]
 pub struct Problem {
-    /// The version of the problem file: 1 or 2.
+    /// The version of the problem file: 1 to 3.
     pub version: u32,
     /// 1 to 32 bytes, each of `a` to `z`, `0` to `9`, `-` and `_`.
     pub name: Name,
@@ -76,11 +78,14 @@ pub struct Problem {
     pub blocking: u32,
     /// The greatest side of a patch that a box is chopped into: even, 4 to 256.
     pub max_grid_size: u32,
-    /// The masses at the start, at most 256 rectangles. A later one replaces an earlier one, and a cell
+    /// The masses at the start, at most 256 rectangles. A later one of a species replaces an earlier one of it, and a cell
     /// of none has mass 0.
     pub blocks: Blocks,
+    /// How many species there are, each with masses and a ledger of its own on the same boxes: 1 to 4, and 1 below version 3. The
+    /// inflows are of species 0; the others have none.
+    pub species: u32,
     pub ghost limits: { Limits version name nx ny steps cx cy d shear_x shear_y x_sides y_sides max_level tag n_error_buf efficiency min_width regrid_int
-        blocking max_grid_size blocks },
+        blocking max_grid_size blocks species },
 }
 
 impl Sides {

@@ -74,7 +74,7 @@ fn read_whole(
 /// ledger are those of `old`, and its patches have at most `max_grid_size` by `max_grid_size` cells. `Bad` is at the place of
 /// the first test that fails, and then the bytes are the record of no sound later state. Memory is taken only for rows, boxes
 /// and masses that were read whole, or that the older state has. Above level 0 it is taken for two bits at a time for each
-/// cell of the domain of the level below.
+/// cell of the domain of the next coarser level.
 pub fn decode_delta(
     alloc: Global,
     p: &Problem,

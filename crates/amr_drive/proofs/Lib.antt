@@ -4,3 +4,13 @@ mod Regridded
 mod NextStates
 pub mod Finishes
 mod TeamSends
+mod SpeciesParts
+mod StepsTo
+mod LaneLists
+mod DueRegrids
+mod GoneOn
+mod LaneChanges
+mod Written
+mod LaneShares
+mod LaneSends
+mod FlockStarts

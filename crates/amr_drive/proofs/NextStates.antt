@@ -1,7 +1,7 @@
 -- The next state, by its regrid and its step.
 use Rattle.std.proofs.Common.{◌≡◌, ◌∙◌, Bool, true, false, cond, refl, sym, ap}
 use Rattle.amr_def.specs.declared.problem.Problem.{Problem}
-use Rattle.amr_def.specs.Regrid.{regrid}
+use Rattle.amr_def.specs.Regrid.{regrid, regrid_by}
 use Rattle.amr_def.specs.Run.{next, regrid_is_due, stepped}
 use Rattle.amr_def.specs.Facts.{IsSound}
 use Rattle.amr_def.specs.State.{State}
@@ -12,7 +12,7 @@ unfolding next
 next_is p s t e = ap (stepped p) e
 
 step_kept : (b : Bool) (p : Problem) (s : State) → (cond b (regrid p s) s).step ≡ s.step
-unfolding regrid
+unfolding regrid regrid_by
 step_kept true p s = refl
 step_kept false p s = refl
 

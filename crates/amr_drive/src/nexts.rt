@@ -4,7 +4,7 @@ ghost use Rattle.std.specs.Prelude.{◌≡◌, ◌⊎◌, ◌<◌, ◌%◌, ◌&
 ghost use Rattle.std.specs.List.{All};
 ghost use Rattle.amr_def.specs.Facts.{IsSound};
 ghost use Rattle.amr_def.specs.Regrid.{regrid};
-ghost use Rattle.amr_def.specs.Run.{next, regrid_is_due};
+ghost use Rattle.amr_def.specs.Run.{next, regrid_is_due, stepped};
 ghost use Rattle.amr_patch.specs.Meshes.{is_spent, levels_of, state_of};
 ghost use Rattle.amr_start.specs.PatchBoxes.{IsChopped};
 ghost use Rattle.amr_advance.specs.Crews.{MayRun};
@@ -24,7 +24,7 @@ use std::sync::Wait;
 use std::thread::Threads;
 
 /// Whether a regrid is due before the step from step `number` is made.
-fn is_due(p: &Problem, number: u32) -> bool
+pub(crate) fn is_due(p: &Problem, number: u32) -> bool
     ensures { result ≡ (nat_lt 0 number && ((number % p.now.regrid_int) == 0)) }
 {
     number > 0 && number % p.regrid_int == 0
@@ -59,6 +59,32 @@ fn regrid_if_due<R: Threads + Sync>(
         kept.forget_masses();
     }
     Ok(())
+}
+
+/// Makes the step that is to come, with no regrid before it. After `NoMemory` the mesh is spent.
+pub(crate) fn make_plain_step<R: Threads + Wait + Sync, G: Gate + Sync>(
+    workers: &mut Workers<'_, R, G>,
+    p: &Problem,
+    mesh: &mut Mesh,
+    kept: &mut Kept,
+) -> Result<(), NoMemory>
+    requires whole { is_spent mesh.old ≡ false }
+    requires sound { IsSound p.now (state_of mesh.old) }
+    requires to_come { (state_of mesh.old).step < p.now.steps }
+    requires coarsenable { AreCoarsenableAbove (levels_of mesh.old) }
+    requires kept { IsKeptFor p.now (state_of mesh.old).levels kept.old }
+    requires crew { (tasks : ℕ) → MayRun G.admits p.now tasks workers.old }
+    ensures workers { workers.new ≡ workers.old }
+    ensures value { OnOk result (state_of mesh.new ≡ stepped p.now (state_of mesh.old)) }
+    ensures sound { OnOk result (IsSound p.now (state_of mesh.new)) }
+    ensures patches { is_spent mesh.new ≡ false → All (IsChopped p.now.max_grid_size) (levels_of mesh.old)
+        → All (IsChopped p.now.max_grid_size) (levels_of mesh.new) }
+    ensures coarsenable { is_spent mesh.new ≡ false → AreCoarsenableAbove (levels_of mesh.new) }
+    ensures whole { OnOk result (is_spent mesh.new ≡ false) }
+    ensures spent { OnErr result (is_spent mesh.new ≡ true) }
+    ensures kept { OnOk result (IsKeptFor p.now (state_of mesh.new).levels kept.new) }
+{
+    step_kept(workers, p, mesh, kept)
 }
 
 /// What a run is made with: memory, the work of its steps with the problem, and the step that it goes up to.
@@ -101,5 +127,5 @@ pub(crate) fn make_next<R: Threads + Wait + Sync, G: Gate + Sync>(
         mesh,
         kept,
     )?;
-    step_kept(workers, run.job.problem, mesh, kept)
+    make_plain_step(workers, run.job.problem, mesh, kept)
 }

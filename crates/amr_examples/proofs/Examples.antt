@@ -18,10 +18,11 @@ abbrev pub at : ℕ → ℕ → Cell
 at x y = cell (pos x) (pos y)
 
 abbrev pub block : ℕ → ℕ → ℕ → ℕ → ℕ → Block
-block a b c d m = record { x0 = a; y0 = b; x1 = c; y1 = d; mass = m }
+block a b c d m = record { x0 = a; y0 = b; x1 = c; y1 = d; mass = m; species = 0 }
 
 -- the keys of a problem, the limits that they keep, and the problem
 pub record Keys : Type 0 where
+  pub version : ℕ
   pub name : List ℕ
   pub nx : ℕ
   pub ny : ℕ
@@ -42,13 +43,14 @@ pub record Keys : Type 0 where
   pub blocking : ℕ
   pub max_grid_size : ℕ
   pub blocks : List Block
+  pub species : ℕ
 
 abbrev pub AreWithinLimits : Keys → Type 0
-AreWithinLimits k = Limits 1 k.name k.nx k.ny k.steps k.cx k.cy k.d k.shear_x k.shear_y k.x_sides k.y_sides k.max_level k.tag k.n_error_buf k.efficiency k.min_width k.regrid_int k.blocking k.max_grid_size k.blocks
+AreWithinLimits k = Limits k.version k.name k.nx k.ny k.steps k.cx k.cy k.d k.shear_x k.shear_y k.x_sides k.y_sides k.max_level k.tag k.n_error_buf k.efficiency k.min_width k.regrid_int k.blocking k.max_grid_size k.blocks k.species
 
 abbrev pub problem : (k : Keys) → AreWithinLimits k → Problem
 problem k limits = record {
-  version = 1;
+  version = k.version;
   name = k.name;
   nx = k.nx;
   ny = k.ny;
@@ -69,12 +71,14 @@ problem k limits = record {
   blocking = k.blocking;
   max_grid_size = k.max_grid_size;
   blocks = k.blocks;
+  species = k.species;
   limits = limits;
 }
 
 -- a ring of 4 by 2 cells with mass in the first, at Courant number 1/2
 abbrev pub ring_keys : Keys
 ring_keys = record {
+  version = 1;
   name = codes "ring";
   nx = 4;
   ny = 2;
@@ -95,6 +99,7 @@ ring_keys = record {
   blocking = 2;
   max_grid_size = 32;
   blocks = block 0 0 0 0 8 ∷ [];
+  species = 1;
 }
 
 pub ring_limits : AreWithinLimits ring_keys

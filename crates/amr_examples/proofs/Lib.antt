@@ -7,6 +7,7 @@ mod PayloadRows
 mod RegisterRows
 mod RegridRows
 mod RunRows
+mod SpeciesRows
 mod StepRows
 mod SubcycleRows
 mod SubstepRows

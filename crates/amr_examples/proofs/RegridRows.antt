@@ -9,9 +9,9 @@ use Rattle.amr_def.specs.Tags.{is_tagged, is_tagged_by}
 use Rattle.amr_def.specs.Cut.{best_cut}
 use Rattle.amr_def.specs.Cluster.{cluster, cluster_within}
 use Rattle.amr_def.specs.NewBoxes.{new_boxes, is_projected}
-use Rattle.amr_def.specs.Regrid.{regrid, refill, child_share}
+use Rattle.amr_def.specs.Regrid.{regrid, refill, child_share, regrid_by}
 use Rattle.amr_def.specs.Run.{plain_start, run, start, finish}
-use Rattle.amr_def.specs.Plot.{plot, head_text, ledger_line, level_text, level_line, box_text, box_line, mass_line}
+use Rattle.amr_def.specs.Plot.{box_line, box_text, head_text, ledger_line, ledger_lines, level_line, level_text, mass_line, plot, plot_all, rows_text}
 use Rattle.amr_examples.proofs.Examples.{box, at, spot, loose_spot, blocked_spot, three_levels}
 
 shares_of_seven : map (child_share 7) (0 ∷ 1 ∷ 2 ∷ 3 ∷ []) ≡ 2 ∷ 2 ∷ 2 ∷ 1 ∷ []
@@ -41,17 +41,17 @@ unfolding is_tagged_by value_at in_domain inflow_at
 tags_of_a_spot = refl
 
 three_boxes_round_a_spot : plot spot (run spot 0) ≡ codes "amr-plot 1\nname ring\nstep 0\nledger 0 7 0 0\nlevel 0 1\nbox 0 0 3 1\n0 7 0 0\n0 0 0 0\nlevel 1 3\nbox 0 0 1 1\n0 0\n0 0\nbox 2 0 3 3\n2 2\n2 1\n0 0\n0 0\nbox 4 0 5 1\n0 0\n0 0\nend\n"
-unfolding run start finish regrid refill new_boxes cluster cluster_within best_cut is_tagged_by value_at in_domain inflow_at total_mass plot head_text ledger_line level_text level_line box_text box_line mass_line digits
+unfolding run start finish regrid regrid_by refill new_boxes cluster cluster_within best_cut is_tagged_by value_at in_domain inflow_at total_mass plot_all head_text ledger_lines ledger_line level_text level_line box_text box_line rows_text mass_line digits
 three_boxes_round_a_spot = refl
 
 one_box_round_a_spot : plot loose_spot (run loose_spot 0) ≡ codes "amr-plot 1\nname ring\nstep 0\nledger 0 7 0 0\nlevel 0 1\nbox 0 0 3 1\n0 7 0 0\n0 0 0 0\nlevel 1 1\nbox 0 0 5 3\n0 0 2 2 0 0\n0 0 2 1 0 0\n0 0 0 0 0 0\n0 0 0 0 0 0\nend\n"
-unfolding run start finish regrid refill new_boxes cluster cluster_within best_cut is_tagged_by value_at in_domain inflow_at total_mass plot head_text ledger_line level_text level_line box_text box_line mass_line digits
+unfolding run start finish regrid regrid_by refill new_boxes cluster cluster_within best_cut is_tagged_by value_at in_domain inflow_at total_mass plot_all head_text ledger_lines ledger_line level_text level_line box_text box_line rows_text mass_line digits
 one_box_round_a_spot = refl
 
 one_block_round_a_spot : plot blocked_spot (run blocked_spot 0) ≡ codes "amr-plot 1\nname ring\nstep 0\nledger 0 7 0 0\nlevel 0 1\nbox 0 0 3 1\n0 7 0 0\n0 0 0 0\nlevel 1 1\nbox 0 0 7 3\n0 0 2 2 0 0 0 0\n0 0 2 1 0 0 0 0\n0 0 0 0 0 0 0 0\n0 0 0 0 0 0 0 0\nend\n"
-unfolding run start finish regrid refill new_boxes cluster cluster_within best_cut is_tagged_by value_at in_domain inflow_at total_mass plot head_text ledger_line level_text level_line box_text box_line mass_line digits
+unfolding run start finish regrid regrid_by refill new_boxes cluster cluster_within best_cut is_tagged_by value_at in_domain inflow_at total_mass plot_all head_text ledger_lines ledger_line level_text level_line box_text box_line rows_text mass_line digits
 one_block_round_a_spot = refl
 
 three_levels_at_the_start : plot three_levels (run three_levels 0) ≡ codes "amr-plot 1\nname ring\nstep 0\nledger 0 128 0 0\nlevel 0 1\nbox 0 0 1 1\n64 0\n64 0\nlevel 1 1\nbox 0 0 3 3\n16 16 0 0\n16 16 0 0\n16 16 0 0\n16 16 0 0\nlevel 2 1\nbox 0 0 7 7\n4 4 4 4 0 0 0 0\n4 4 4 4 0 0 0 0\n4 4 4 4 0 0 0 0\n4 4 4 4 0 0 0 0\n4 4 4 4 0 0 0 0\n4 4 4 4 0 0 0 0\n4 4 4 4 0 0 0 0\n4 4 4 4 0 0 0 0\nend\n"
-unfolding run start finish regrid refill new_boxes cluster cluster_within best_cut is_tagged_by value_at in_domain inflow_at total_mass plot head_text ledger_line level_text level_line box_text box_line mass_line digits
+unfolding run start finish regrid regrid_by refill new_boxes cluster cluster_within best_cut is_tagged_by value_at in_domain inflow_at total_mass plot_all head_text ledger_lines ledger_line level_text level_line box_text box_line rows_text mass_line digits
 three_levels_at_the_start = refl

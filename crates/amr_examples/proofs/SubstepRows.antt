@@ -42,7 +42,7 @@ both_steps_of_the_ring = refl
 abbrev open_sides : Domain
 open_sides = record { columns = 8; rows = 8; wrap_x = false; wrap_y = false }
 
--- whether a cell has to be of the level below finer boxes
+-- whether a cell has to be of the next coarser level than finer boxes
 abbrev is_asked : Domain → List Extent → ℕ → ℕ → Bool
 is_asked d fine x y = is_near d 1 (is_covered_by fine) (at x y)
 

@@ -13,7 +13,7 @@ use Rattle.amr_def.specs.Domain.{domain, home_cell, is_near}
 use Rattle.amr_def.specs.State.{Masses, Level, State, level_at, is_covered}
 use Rattle.amr_def.specs.Tags.{is_tagged, is_tagged_by, is_grown}
 use Rattle.amr_def.specs.NewBoxes.{first_boxes, is_projected}
-use Rattle.amr_def.specs.Regrid.{split_mass, refilled, first_masses, rest_of, refill, new_level_count, regrid}
+use Rattle.amr_def.specs.Regrid.{split_mass, refilled, first_masses, rest_of, refill, new_level_count, regrid, regrid_by}
 use Rattle.amr_def.specs.Facts.{IsSound, IsHeld}
 use Rattle.amr_def.proofs.LevelLists.{IsCellInside, child_0}
 use Rattle.amr_def.proofs.Values.{same_cell}
@@ -88,7 +88,7 @@ boxed p tagged l (bs ∷ more) new (suc j) m e fits q i h = boxed p tagged (suc 
 
 -- ---- tags are held
 
-tagged_there : (p : Problem) (s : State) (l : ℕ) (c : Cell) → is_tagged p s l c ≡ true → IsSome ((level_at s l).masses c)
+pub tagged_there : (p : Problem) (s : State) (l : ℕ) (c : Cell) → is_tagged p s l c ≡ true → IsSome ((level_at s l).masses c)
 unfolding is_tagged_by
 tagged_there p s l c h = (both_parts _ _ h).0
 
@@ -98,25 +98,29 @@ covers_parent m c h =
     let is : parent (child_0 c) ≡ c = same_cell (half-double c.x) (half-double c.y) in
     subst (λ (k : Cell). has_child_where (λ q. is_some (m q)) k ≡ true) is (child_of_parent (λ q. is_some (m q)) (child_0 c) h)
 
-held_from : (p : Problem) (n : ℕ) (rs : List Row) (k : Level) (ks : List Level) → IsSound p (before p n rs k ks) → (l : ℕ) (c : Cell) → l < length (k ∷ ks) → l < p.max_level → is_tagged p (before p n rs k ks) l c ≡ true → is_covered (level_at (regrid p (before p n rs k ks)) (l + 1)).masses c ≡ true
-unfolding regrid
-held_from p n rs k ks sound l c fits low h =
-    let s = before p n rs k ks in
-    let tagged = is_tagged p s in
-    let ns = boxes p n rs k ks in
+held_from : (p : Problem) (tagged : ℕ → Cell → Bool) (n : ℕ) (rs : List Row) (k : Level) (ks : List Level) → IsSound p (before p tagged n rs k ks) → (l : ℕ) (c : Cell) → l < length (k ∷ ks) → l < p.max_level → tagged l c ≡ true → IsSome ((nth (k ∷ ks) l).masses c)
+    → is_covered (level_at (regrid_by p tagged (before p tagged n rs k ks)) (l + 1)).masses c ≡ true
+unfolding regrid_by
+held_from p tagged n rs k ks sound l c fits low h there =
+    let ns = boxes p tagged n rs k ks in
     let level = sound.nested.each l fits in
-    let inside : IsCellInside p l c = in_domain-inside p l c (level.inside c (sym (level.filled c) ∙ tagged_there p s l c h)) in
+    let inside : IsCellInside p l c = in_domain-inside p l c (level.inside c (sym (level.filled c) ∙ there)) in
     let grown : is_grown p l (tagged l) c ≡ true = grown_itself p l (tagged l) c inside h in
     let is : parent (child_0 c) ≡ c = same_cell (half-double c.x) (half-double c.y) in
     let child_in : IsCellInside p (suc l) (child_0 c) = child_inside p l c (child_0 c) 0 0 (omega arith) (omega arith) (same_cell (sym (plus_none _)) (sym (plus_none _))) inside in
-    let facts = new_facts p tagged (new_level_count p s) 0 in
-    let in_new : in_boxes (boxes_at ns l) (child_0 c) ≡ true = boxed p tagged 0 ns facts l l (omega arith) (omega (arith, count p n rs k ks)) (child_0 c) child_in (ap (is_grown p l (tagged l)) is ∙ grown) in
-    let there = (found p tagged 0 k.masses ks ns facts l (child_0 c) in_new).1 in
-    subst (λ i. is_covered (nth (k ∷ refill k.masses ks ns) i).masses c ≡ true) (sym (add-one l)) (covers_parent (nth (refill k.masses ks ns) l).masses c there)
+    let facts = new_facts p tagged (new_level_count p (before p tagged n rs k ks)) 0 in
+    let in_new : in_boxes (boxes_at ns l) (child_0 c) ≡ true = boxed p tagged 0 ns facts l l (omega arith) (omega (arith, count p tagged n rs k ks)) (child_0 c) child_in (ap (is_grown p l (tagged l)) is ∙ grown) in
+    let new_there = (found p tagged 0 k.masses ks ns facts l (child_0 c) in_new).1 in
+    subst (λ i. is_covered (nth (k ∷ refill k.masses ks ns) i).masses c ≡ true) (sym (add-one l)) (covers_parent (nth (refill k.masses ks ns) l).masses c new_there)
 
-held_by_levels : (p : Problem) (n : ℕ) (rs : List Row) (ks : List Level) → IsSound p (record { step = n; rows = rs; levels = ks }) → IsHeld p (record { step = n; rows = rs; levels = ks }) (regrid p (record { step = n; rows = rs; levels = ks }))
-held_by_levels p n rs [] sound = absurd (omega (arith, sound.some_level))
-held_by_levels p n rs (k ∷ ks) sound = record { at = held_from p n rs k ks sound }
+held_by_levels : (p : Problem) (tagged : ℕ → Cell → Bool) (n : ℕ) (rs : List Row) (ks : List Level) → let s : State = record { step = n; rows = rs; levels = ks } in IsSound p s → (l : ℕ) (c : Cell) → l < length ks → l < p.max_level → tagged l c ≡ true → IsSome ((level_at s l).masses c) → is_covered (level_at (regrid_by p tagged s) (l + 1)).masses c ≡ true
+held_by_levels p tagged n rs [] sound = absurd (omega (arith, sound.some_level))
+held_by_levels p tagged n rs (k ∷ ks) sound = held_from p tagged n rs k ks sound
+
+-- a tagged cell of a level below the greatest is covered after the regrid by these tags
+pub regrid_by-held : (p : Problem) (tagged : ℕ → Cell → Bool) (s : State) → IsSound p s → (l : ℕ) (c : Cell) → l < length s.levels → l < p.max_level → tagged l c ≡ true → IsSome ((level_at s l).masses c) → is_covered (level_at (regrid_by p tagged s) (l + 1)).masses c ≡ true
+regrid_by-held p tagged s sound = held_by_levels p tagged s.step s.rows s.levels sound
 
 pub regrid-held : (p : Problem) (s : State) → IsSound p s → IsHeld p s (regrid p s)
-regrid-held p s sound = held_by_levels p s.step s.rows s.levels sound
+unfolding regrid
+regrid-held p s sound = record { at = λ l c fits low h. regrid_by-held p (is_tagged p s) s sound l c fits low h (tagged_there p s l c h) }

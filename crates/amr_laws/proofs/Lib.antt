@@ -17,3 +17,8 @@ pub mod Substeps
 pub mod Signs
 pub mod Sides
 pub mod LedgerLevels
+pub mod OneSpecies
+pub mod FlockLists
+pub mod FlockRegrid
+pub mod FlockRuns
+pub mod FlockOfOne

@@ -1,4 +1,4 @@
--- A regrid of a sound state gives a sound state.
+-- A regrid of a sound state, by any tags, gives a sound state.
 use Rattle.std.proofs.Common.{◌≡◌, ℕ, zero, suc, ◌+◌, ◌*◌, ◌^◌, ◌<◌, ◌≤◌, min, Bool, false, ◌⊎◌, inl, inr, refl, sym, ap, subst, ◌∙◌, arith, List, [], ◌∷◌, length}
 use Rattle.std.proofs.lemmas.Bool.Decides.{nat_tests}
 use Rattle.amr_box.specs.declared.Cell.{Cell}
@@ -9,7 +9,7 @@ use Rattle.amr_def.specs.Domain.{domain, domain_box}
 use Rattle.amr_def.specs.State.{Level, State, mass_of}
 use Rattle.amr_def.specs.Tags.{is_tagged}
 use Rattle.amr_def.specs.NewBoxes.{first_boxes, new_boxes}
-use Rattle.amr_def.specs.Regrid.{refill, first_masses, new_level_count, regrid}
+use Rattle.amr_def.specs.Regrid.{refill, first_masses, new_level_count, regrid, regrid_by}
 use Rattle.amr_def.specs.Facts.{IsBounded, IsSound, growth}
 use Rattle.amr_def.proofs.Nesting.{in_domain-inside, children}
 use Rattle.amr_def.proofs.Greatest.{AllUpTo}
@@ -67,25 +67,25 @@ bound_scaled m n = let parts = bound_parts (growth m) n (growth_parts m) in subs
 
 -- ---- the state
 
-module _ (p : Problem) (n : ℕ) (rs : List Row) (k : Level) (ks : List Level) where
+module _ (p : Problem) (tagged : ℕ → Cell → Bool) (n : ℕ) (rs : List Row) (k : Level) (ks : List Level) where
   abbrev pub before : State
   before = record { step = n; rows = rs; levels = k ∷ ks }
 
   abbrev pub boxes : List (List Extent)
-  boxes = new_boxes p (is_tagged p before) (new_level_count p before) 0
+  boxes = new_boxes p tagged (new_level_count p before) 0
 
   pub count : length boxes ≡ min (length (k ∷ ks)) p.max_level
-  count = new_boxes_count p (is_tagged p before) (new_level_count p before) 0
+  count = new_boxes_count p tagged (new_level_count p before) 0
 
   module _ (sound : IsSound p before) where
     links : Chain p 0 (k ∷ ks)
     links = state_chain p before sound.nested sound.synced
 
-    facts : NewFacts p (is_tagged p before) 0 boxes
-    facts = new_facts p (is_tagged p before) (new_level_count p before) 0
+    facts : NewFacts p tagged 0 boxes
+    facts = new_facts p tagged (new_level_count p before) 0
 
     new_links : Chain p 0 (k ∷ refill k.masses ks boxes)
-    new_links = refill_chain p (is_tagged p before) 0 k ks boxes (chain_first p 0 k ks links) (base_surrounds p k (first_boxes boxes) sound.base) (old_synced p k ks links) (old_facts p k ks links) facts
+    new_links = refill_chain p tagged 0 k ks boxes (chain_first p 0 k ks links) (base_surrounds p k (first_boxes boxes) sound.base) (old_synced p k ks links) (old_facts p k ks links) facts
 
     bound : ℕ
     bound = 2 ^ 30 + growth p.max_level * (n + 1)
@@ -101,22 +101,22 @@ module _ (p : Problem) (n : ℕ) (rs : List Row) (k : Level) (ks : List Level) w
     unfolding bound
     new_up = (up.0, refill_up 0 k.masses ks boxes bound few (bound_scaled p.max_level n) up.0 up.1)
 
-    new_bounded : IsBounded p (regrid p before)
-    unfolding bound regrid
+    new_bounded : IsBounded p (regrid_by p tagged before)
+    unfolding bound regrid_by
     new_bounded = record {
       at = λ l c. let e : 0 + l ≡ l = omega arith in
           subst (λ i. 4 ^ i * mass_of (nth (k ∷ refill k.masses ks boxes) l).masses c ≤ 2 ^ 30 + growth p.max_level * (n + 1)) e (up_to_each 0 (k ∷ refill k.masses ks boxes) (2 ^ 30 + growth p.max_level * (n + 1)) new_up l c);
     }
 
-    pub sound_after : IsSound p (regrid p before)
-    unfolding regrid
+    pub sound_after : IsSound p (regrid_by p tagged before)
+    unfolding regrid_by
     sound_after = record {
       within = sound.within;
       base = sound.base;
       some_level = omega arith;
       few_levels = omega (arith, refill_count k.masses ks boxes, count);
-      nested = state_nested p (regrid p before) new_links;
-      synced = state_synced p (regrid p before) new_links;
+      nested = state_nested p (regrid_by p tagged before) new_links;
+      synced = state_synced p (regrid_by p tagged before) new_links;
       bounded = new_bounded;
       telescoped = record {
         count = sound.telescoped.count;
@@ -128,9 +128,13 @@ module _ (p : Problem) (n : ℕ) (rs : List Row) (k : Level) (ks : List Level) w
       small_rows = sound.small_rows;
     }
 
-sound_from : (p : Problem) (n : ℕ) (rs : List Row) (ks : List Level) → IsSound p (record { step = n; rows = rs; levels = ks }) → IsSound p (regrid p (record { step = n; rows = rs; levels = ks }))
-sound_from p n rs [] sound = absurd (omega (arith, sound.some_level))
-sound_from p n rs (k ∷ ks) sound = sound_after p n rs k ks sound
+sound_from : (p : Problem) (tagged : ℕ → Cell → Bool) (n : ℕ) (rs : List Row) (ks : List Level) → IsSound p (record { step = n; rows = rs; levels = ks }) → IsSound p (regrid_by p tagged (record { step = n; rows = rs; levels = ks }))
+sound_from p tagged n rs [] sound = absurd (omega (arith, sound.some_level))
+sound_from p tagged n rs (k ∷ ks) sound = sound_after p tagged n rs k ks sound
+
+pub regrid_by-sound : (p : Problem) (tagged : ℕ → Cell → Bool) (s : State) → IsSound p s → IsSound p (regrid_by p tagged s)
+regrid_by-sound p tagged s sound = sound_from p tagged s.step s.rows s.levels sound
 
 pub regrid-sound : (p : Problem) (s : State) → IsSound p s → IsSound p (regrid p s)
-regrid-sound p s sound = sound_from p s.step s.rows s.levels sound
+unfolding regrid
+regrid-sound p s sound = regrid_by-sound p (is_tagged p s) s sound

@@ -16,7 +16,7 @@ use Rattle.amr_def.specs.Laws.{step_fluxes}
 use Rattle.amr_def.specs.Regrid.{child_share, regrid}
 use Rattle.amr_def.specs.Run.{start, next, finish, run}
 use Rattle.amr_def.specs.Facts.{IsLevel, IsSound, IsHeld}
-use Rattle.amr_def.specs.Plot.{plot}
+use Rattle.amr_def.specs.Plot.{plot_all}
 use Rattle.amr_laws.specs.GridSize.{AreLimits, with_grid_size}
 use Rattle.std.specs.List.{All}
 use Rattle.amr_laws.specs.Levels.{AreLevels, LiesInLevel, masses_of}
@@ -31,7 +31,7 @@ StartIsSound = (p : Problem) → IsSound p (start p)
 abbrev pub RegridKeepsSound : Type 0
 RegridKeepsSound = (p : Problem) (s : State) → IsSound p s → IsSound p (regrid p s)
 
--- each tagged cell of a level below the greatest is covered after the regrid
+-- each tagged cell of a level coarser than the greatest is covered after the regrid
 abbrev pub RegridHoldsTags : Type 0
 RegridHoldsTags = (p : Problem) (s : State) → IsSound p s → IsHeld p s (regrid p s)
 
@@ -51,7 +51,7 @@ RunIgnoresGridSize = (p : Problem) (n : ℕ) (limits : AreLimits p n) (k : ℕ) 
 
 -- and the same plots
 abbrev pub PlotIgnoresGridSize : Type 0
-PlotIgnoresGridSize = (p : Problem) (n : ℕ) (limits : AreLimits p n) (s : State) → plot (with_grid_size p n limits) s ≡ plot p s
+PlotIgnoresGridSize = (p : Problem) (n : ℕ) (limits : AreLimits p n) (ss : List State) → plot_all (with_grid_size p n limits) ss ≡ plot_all p ss
 
 -- the boxes of a level lie in its domain, and their coordinates are as small as the calls on boxes ask
 abbrev pub BoxesLieInLevel : Type 0
@@ -82,7 +82,7 @@ SharesAddUp = (m : ℕ) → child_share m 0 + child_share m 1 + child_share m 2 
 
 -- in every step of a level, its second finer one too, no mass falls below 0: as whole numbers the new
 -- mass of a cell of the coarsest level is the old one and the net inflow. Each finer level is the
--- coarsest one of its own two steps, with `old` the masses of the level below before its step.
+-- coarsest one of its own two steps, with `old` the masses of the next coarser level before its step.
 abbrev pub LevelStepIsExact : Type 0
 LevelStepIsExact = (p : Problem) (l : ℕ) (ks : List Level) (k : Level) (old : Masses) (c : Cell) → AreLevels p l (k ∷ ks) → IsSome (k.masses c)
     → let r : Stepped = step p l (k.masses ∷ masses_of ks) old in pos (mass_of (first_of r.levels) c) ≡ pos (mass_of k.masses c) +ℤ net r.fluxes c

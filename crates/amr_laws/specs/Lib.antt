@@ -3,3 +3,4 @@ pub mod Levels
 pub mod Substeps
 pub mod Sides
 pub mod Laws
+pub mod Species

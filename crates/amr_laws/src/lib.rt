@@ -7,6 +7,9 @@ ghost use Rattle.amr_laws.specs.Laws.{LevelStepGivesMasses, LevelStepIsExact, Le
 ghost use Rattle.amr_laws.specs.Laws.{NextIsSound, OutflowByLevels, PlotIgnoresGridSize, ProductsAreSmall, RefluxIsEffectiveStep};
 ghost use Rattle.amr_laws.specs.Laws.{RegistersLieBesideCovered, RegridHoldsTags, RegridKeepsMasses, RegridKeepsSound, RunIgnoresGridSize};
 ghost use Rattle.amr_laws.specs.Laws.{RunIsSound, SharesAddUp, StartIsSound, SubstepsAreOfLevels, SubstepsFit, ValuesAreSmall};
+ghost use Rattle.amr_laws.specs.Species.{RegridByGivesSameBoxes, RegridByKeepsMasses, RegridByKeepsSound, RunAllIgnoresGridSize};
+
+pub mod species;
 
 /// The start of a run is sound: nested, synced, bounded and telescoped, with boxes that have cells and rows of 64 bits.
 pub fn start_is_sound()
@@ -14,9 +17,12 @@ pub fn start_is_sound()
 {}
 
 /// A regrid of a sound state gives a sound state. Its new boxes are disjoint, in the domain, aligned to the blocking
-/// factor and nested. Covered cells stay the sums of their children, and masses stay within their bound.
+/// factor and nested. Covered cells stay the sums of their children, and masses stay within their bound. So it is by
+/// its own tags and by any others; and states on the same boxes get the same new ones.
 pub fn regrid_keeps_sound()
-    ensures { RegridKeepsSound }
+    ensures by_its_tags { RegridKeepsSound }
+    ensures by_any_tags { RegridByKeepsSound }
+    ensures same_boxes { RegridByGivesSameBoxes }
 {}
 
 /// After a regrid each cell that was tagged is covered, but those of the greatest level.
@@ -24,9 +30,10 @@ pub fn regrid_holds_tags()
     ensures { RegridHoldsTags }
 {}
 
-/// A cell that is of a level before and after a regrid keeps its mass.
+/// A cell that is of a level before and after a regrid keeps its mass, whatever the tags are.
 pub fn regrid_keeps_masses()
-    ensures { RegridKeepsMasses }
+    ensures by_its_tags { RegridKeepsMasses }
+    ensures by_any_tags { RegridByKeepsMasses }
 {}
 
 /// The shares of the four children of a cell add up to its mass.
@@ -64,9 +71,10 @@ pub fn products_are_small()
     ensures { ProductsAreSmall }
 {}
 
-/// Problems that differ in the greatest size of a patch alone have the same runs.
+/// Problems that differ in the greatest size of a patch alone have the same runs, also of several species.
 pub fn run_ignores_grid_size()
-    ensures { RunIgnoresGridSize }
+    ensures one { RunIgnoresGridSize }
+    ensures all { RunAllIgnoresGridSize }
 {}
 
 /// And the same plots.

@@ -7,7 +7,7 @@ use Rattle.amr_ghost.specs.Messages.{IsMessageFrom}
 use Rattle.amr_ghost.specs.declared.messages.Message.{Message}
 use Rattle.amr_ghost.proofs.Carrying.{taken_of_boxes}
 use Rattle.amr_ghost.proofs.Zips.{boxes_of_zip}
-use Rattle.amr_register.specs.Registers.{entry_in}
+use Rattle.amr_register.specs.Fields.{entry_in}
 use Rattle.amr_lots.specs.declared.lot.Lot.{Lot}
 use Rattle.amr_lots.specs.Correcting.{HasCorrected, IsCorrected, MayCorrect, finer_in, register_in}
 use Rattle.amr_lots.specs.Serving.{HasMadeCorrection, HasSent, MaySend}

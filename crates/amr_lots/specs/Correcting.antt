@@ -12,7 +12,7 @@ use Rattle.amr_patch.specs.declared.patches.Patch.{Patch}
 use Rattle.amr_patch.specs.Orders.{IsOrderOf}
 use Rattle.amr_patch.specs.Patches.{ArePatchesApart, KeepsFrameAndFluxes, box, mass_in, masses_in}
 use Rattle.amr_register.specs.declared.register.Register.{Register}
-use Rattle.amr_register.specs.Registers.{IsBoxAt, IsPlaced, cells_in, entry_in}
+use Rattle.amr_register.specs.Fields.{IsBoxAt, IsPlaced, cells_in, entry_in}
 use Rattle.amr_transfer.specs.Sums.{AreCoarsenable}
 use Rattle.amr_lots.specs.declared.lot.Correction.{Correction}
 use Rattle.amr_lots.specs.declared.lot.Lot.{Lot}

@@ -34,7 +34,7 @@ pub fn project(alloc: Global, boxes: &[Bx], dom: &Dom) -> Result<Tags, NoMemory>
     Ok(tags)
 }
 
-/// The domain of the level below as a box.
+/// The domain of the next coarser level as a box.
 #[tactic(auto, using(crate::proofs::Sizes::two_doubled))]
 fn coarser_box(dom: &Dom) -> Bx
     ensures value { result ≡ domain_box (in_blocks 2 (domain_of dom.now)) }

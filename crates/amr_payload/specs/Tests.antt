@@ -9,7 +9,7 @@
 --     a box: that of level 0, or inside, proper, aligned and apart from the earlier ones      its low x
 --     a flag of a row of a box is 0 or 1, whichever the older state asks for                  the flag
 --     a mass is within its bound                                                              the mass
---     a level above level 0 is nested, and the one below it in sync                           the number of its boxes
+--     a level above level 0 is nested, and the next coarser one in sync                           the number of its boxes
 --     the last row's mass is that of level 0                                                  the last row's mass
 --     nothing follows                                                                         the end of the last field
 -- (profile)

@@ -1,6 +1,6 @@
 -- The lines of a plot, as the fragments that are put.
-use Rattle.std.proofs.Common.{◌≡◌, pos, length, ℕ, zero, suc, ◌<◌, true, List, [], ◌∷◌, ◌++◌, sym, ap, ◌∙◌, append_assoc, arith}
-use Rattle.std.specs.Prelude.{codes, decimal}
+use Rattle.std.proofs.Common.{◌≡◌, pos, length, ℕ, zero, suc, ◌<◌, true, false, List, [], ◌∷◌, ◌++◌, sym, ap, ◌∙◌, append_assoc, arith}
+use Rattle.std.specs.Prelude.{codes, decimal, if◌then◌else◌}
 use Rattle.amr_def.specs.declared.problem.Problem.{Problem}
 use Rattle.amr_def.specs.declared.problem.Row.{Row}
 use Rattle.std.proofs.lemmas.Bool.Decides.{nat_tests}
@@ -11,8 +11,8 @@ use Rattle.std.specs.Fmt.{signed_decimal}
 use Rattle.std.proofs.lemmas.Bool.{and_parts}
 use Rattle.amr_box.specs.Cells.{Extent}
 use Rattle.amr_def.specs.State.{Level}
-use Rattle.amr_def.specs.Plot.{box_line, head_text, ledger_line, level_line}
-use Rattle.amr_plot.specs.Puts.{level_head}
+use Rattle.amr_def.specs.Plot.{box_line, head_text, ledger_line, level_line, line, names_species}
+use Rattle.amr_plot.specs.Texts.{level_head}
 
 -- a word goes before what is left, and the end of the line after it
 word_then : (word rest end : List ℕ) → (32 ∷ (word ++ rest)) ++ end ≡ 32 ∷ (word ++ (rest ++ end))
@@ -39,13 +39,34 @@ box_fragments b west south east north w s e n =
     ap (λ (t : List ℕ). codes "box" ++ t) (sym (four_words (decimal west) (decimal south) (decimal east) (decimal north) (10 ∷ [])))
     ∙ (λ i. (codes "box" ++ (32 ∷ (signed_decimal (w i) ++ (32 ∷ (signed_decimal (s i) ++ (32 ∷ (signed_decimal (e i) ++ (32 ∷ (signed_decimal (n i) ++ []))))))))) ++ 10 ∷ [])
 
-pub ledger_fragments : (k : ℕ) (r : Row) → codes "ledger " ++ (decimal k ++ (codes " " ++ (decimal r.mass ++ (codes " " ++ (decimal r.inflow ++ (codes " " ++ (decimal r.outflow ++ (10 ∷ [])))))))) ≡ ledger_line k r
-unfolding ledger_line
-ledger_fragments k r = ap (λ (l : List ℕ). codes "ledger" ++ l) (sym (four_words (decimal k) (decimal r.mass) (decimal r.inflow) (decimal r.outflow) (10 ∷ [])))
+three_words : (a b c end : List ℕ) → (32 ∷ (a ++ (32 ∷ (b ++ (32 ∷ (c ++ [])))))) ++ end ≡ 32 ∷ (a ++ (32 ∷ (b ++ (32 ∷ (c ++ end)))))
+three_words a b c end = word_then a _ end ∙ after_word a (word_then b _ end ∙ after_word b (word_then c [] end))
 
-pub head_fragments : (p : Problem) (step : ℕ) → codes "amr-plot 1" ++ (10 ∷ (codes "name " ++ (p.name ++ (10 ∷ (codes "step " ++ (decimal step ++ (10 ∷ []))))))) ≡ head_text p step
+-- a row without and with the number of its species
+pub ledger_fragments : (k s : ℕ) (r : Row) → codes "ledger " ++ (decimal k ++ (codes " " ++ (decimal r.mass ++ (codes " " ++ (decimal r.inflow ++ (codes " " ++ (decimal r.outflow ++ (10 ∷ [])))))))) ≡ ledger_line false k s r
+unfolding ledger_line
+ledger_fragments k s r = ap (λ (l : List ℕ). codes "ledger" ++ l) (sym (four_words (decimal k) (decimal r.mass) (decimal r.inflow) (decimal r.outflow) (10 ∷ [])))
+
+pub species_ledger_fragments : (k s : ℕ) (r : Row)
+    → codes "ledger " ++ (decimal k ++ (codes " " ++ (decimal s ++ (codes " " ++ (decimal r.mass ++ (codes " " ++ (decimal r.inflow ++ (codes " " ++ (decimal r.outflow ++ (10 ∷ [])))))))))) ≡ ledger_line true k s r
+unfolding ledger_line
+species_ledger_fragments k s r =
+    ap (λ (l : List ℕ). codes "ledger " ++ (decimal k ++ l)) (sym (four_words (decimal s) (decimal r.mass) (decimal r.inflow) (decimal r.outflow) (10 ∷ [])))
+    ∙ ap (λ (l : List ℕ). codes "ledger" ++ l) (sym (word_then (decimal k) _ (10 ∷ [])))
+
+pub head_fragments : (p : Problem) (step : ℕ) (format : List ℕ) → format ≡ decimal (if names_species p then 2 else 1)
+    → codes "amr-plot " ++ (format ++ (10 ∷ (codes "name " ++ (p.name ++ (10 ∷ (codes "step " ++ (decimal step ++ (10 ∷ [])))))))) ≡ head_text p step
 unfolding head_text
-head_fragments p step = ap (λ (l : List ℕ). codes "amr-plot 1" ++ (10 ∷ (codes "name " ++ l))) (sym (append_assoc p.name (10 ∷ []) (codes "step " ++ (decimal step ++ (10 ∷ [])))))
+head_fragments p step format is =
+    let f = decimal (if names_species p then 2 else 1) in
+    let rest = line (codes "step " ++ decimal step) in
+    let begun : codes "amr-plot " ++ (format ++ (10 ∷ (codes "name " ++ (p.name ++ (10 ∷ (codes "step " ++ (decimal step ++ (10 ∷ []))))))))
+    ≡ codes "amr-plot " ++ (f ++ (10 ∷ (codes "name " ++ (p.name ++ (10 ∷ rest))))) = ap (λ (t : List ℕ). codes "amr-plot " ++ (t ++ (10 ∷ (codes "name " ++ (p.name ++ (10 ∷ rest)))))) is in
+    let named : codes "name " ++ (p.name ++ (10 ∷ rest)) ≡ line (codes "name " ++ p.name) ++ rest = ap (λ (l : List ℕ). codes "name " ++ l) (sym (append_assoc p.name (10 ∷ []) rest)) in
+    let formatted : codes "amr-plot " ++ (f ++ (10 ∷ (line (codes "name " ++ p.name) ++ rest))) ≡ line (codes "amr-plot " ++ f) ++ (line (codes "name " ++ p.name) ++ rest) =
+    ap (λ (l : List ℕ). codes "amr-plot " ++ l) (sym (append_assoc f (10 ∷ []) (line (codes "name " ++ p.name) ++ rest))) in
+    begun ∙ ap (λ (l : List ℕ). codes "amr-plot " ++ (f ++ (10 ∷ l))) named ∙ formatted
+    ∙ sym (append_assoc (line (codes "amr-plot " ++ f)) (line (codes "name " ++ p.name)) rest)
 
 -- ---- the name is text
 

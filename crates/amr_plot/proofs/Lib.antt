@@ -1,8 +1,12 @@
-mod Counted
+mod BoxTexts
 mod Cutting
 mod Fragments
-mod Lengths
-mod LevelBoxes
-mod Putting
+mod Layers
+pub mod Lengths
+mod Meshes
+pub mod Pens
+mod PlotTexts
+pub mod Putting
+mod SheetTexts
 mod TextLaws
-mod Words
+pub mod Words

@@ -9,7 +9,7 @@ use Rattle.std.proofs.lemmas.Grind.{div_ceil_times, flat_map-append}
 use Rattle.std.proofs.lemmas.List.{get_or_append_left, get_or-append-add, length-append, take-append-drop, take_all, take_more}
 use Rattle.amr_causes.specs.Bytes.{IsPrefix}
 use Rattle.amr_io.specs.declared.WriteFault.{WriteFault}
-use Rattle.amr_plot.specs.Boxes.{AreTextsOfRuns, joined}
+use Rattle.amr_plot.specs.Texts.{AreTextsOfRuns, joined}
 
 -- ---- texts of items in turn
 

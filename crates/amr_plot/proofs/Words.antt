@@ -8,7 +8,7 @@ use Rattle.amr_box.specs.Cells.{Extent, width}
 use Rattle.amr_def.specs.Plot.{line, mass_line, spaced}
 use Rattle.amr_patch.specs.declared.levels.Level.{Level}
 use Rattle.amr_patch.specs.Levels.{level_of}
-use Rattle.amr_plot.specs.Puts.{masses_text, texts, word}
+use Rattle.amr_plot.specs.Texts.{masses_text, texts, word}
 use Rattle.amr_patch.specs.BoxRows.{mass_in}
 use Rattle.amr_plot.specs.Rows.{row_word}
 use Rattle.amr_plot.proofs.Putting.{texts_front, texts_same}

@@ -1,6 +1,7 @@
-pub mod Puts
+pub mod Pens
+pub mod Sheets
+pub mod Texts
 pub mod Rows
-pub mod Parts
-pub mod Boxes
+pub mod Layers
 pub mod BoxParts
 pub mod Laws

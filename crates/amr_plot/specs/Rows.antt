@@ -3,7 +3,7 @@ use Rattle.std.specs.Prelude.{ℕ, List}
 use Rattle.amr_box.specs.Cells.{Extent}
 use Rattle.amr_patch.specs.declared.levels.Level.{Level}
 use Rattle.amr_patch.specs.BoxRows.{mass_in}
-use Rattle.amr_plot.specs.Puts.{word}
+use Rattle.amr_plot.specs.Texts.{word}
 
 -- the mass in a row and column of a box
 abbrev pub row_word : Level → Extent → ℕ → ℕ → List ℕ

@@ -1,51 +1,75 @@
-//! Boxes of a level, one after another, each its line and its rows.
+//! Boxes of a level, one after another, each its line and the rows of each species.
 
-ghost use Rattle.std.specs.Prelude.{◌≤◌};
+ghost use Rattle.std.specs.Prelude.{◌<◌, ◌≤◌, ◌+◌, ◌==◌, [], cond, length};
 ghost use Rattle.std.specs.List.{All, flat_map};
-ghost use Rattle.amr_def.specs.Plot.{box_text};
-ghost use Rattle.amr_patch.specs.Levels.{level_of};
-ghost use Rattle.amr_plot.specs.Boxes.{IsBoxOf};
-ghost use Rattle.amr_plot.specs.Puts.{Puts};
+ghost use Rattle.amr_box.specs.Cells.{height};
+ghost use Rattle.amr_def.specs.Plot.{box_text, names_species, species_line};
+ghost use Rattle.amr_plot.specs.BoxParts.{some_rows};
+ghost use Rattle.amr_plot.specs.Layers.{IsBoxOf, IsLayer, masses_in};
+ghost use Rattle.amr_plot.specs.Pens.{Puts};
 
-use crate::lines::{box_row, put_line};
+use crate::layer::Layer;
+use crate::lines::{box_row, species_row};
+use crate::pen::Pen;
 use crate::rows::put_rows;
 use amr_box::Bx;
-use amr_def::Problem;
-use amr_io::{Sink, Text, WriteFault};
-use amr_patch::Level;
 
-/// A box of level `l` and its rows.
-fn put_box<O: Sink>(
-    p: &Problem,
-    l: u32,
-    level: &Level,
-    b: &Bx,
-    text: &mut Text,
-    sink: &mut O,
-) -> Result<(), WriteFault>
-    requires fine { l ≤ 4 }
-    requires of_level { IsBoxOf p.now l level.now b.now }
-    ensures { Puts O.holds O.faults sink.old sink.new text.old text.new (box_text (level_of level.now).masses b.now) result }
+/// The line of a species in a box, where plots name species.
+fn put_species_line<P: Pen>(
+    layer: Layer<'_>,
+    species: usize,
+    first: u32,
+    pen: &mut P,
+) -> Result<(), P::Fault>
+    ensures { Puts P.wrote P.failed pen.old pen.new (cond (first == 0) (species_line (names_species layer.entry.problem.now) species) []) result }
 {
-    put_line(&box_row(p, l, b), text, sink)?;
-    put_rows(level, b, 0, b.height(), text, sink)
+    if first == 0 && layer.names_species() {
+        pen.put_fragments(&species_row(species))?;
+    }
+    Ok(())
 }
 
-/// Boxes of level `l`, in order.
-pub(crate) fn put_boxes<O: Sink>(
-    p: &Problem,
-    l: u32,
-    level: &Level,
-    boxes: &[Bx],
-    text: &mut Text,
-    sink: &mut O,
-) -> Result<(), WriteFault>
-    requires fine { l ≤ 4 }
-    requires of_level { All (IsBoxOf p.now l level.now) boxes.now }
-    ensures { Puts O.holds O.faults sink.old sink.new text.old text.new (flat_map (box_text (level_of level.now).masses) boxes.now) result }
+/// So many rows of a species in a box, from row `first` on; the species' line before row 0.
+pub(crate) fn put_some_rows<P: Pen>(
+    layer: Layer<'_>,
+    b: &Bx,
+    species: usize,
+    first: u32,
+    count: u32,
+    pen: &mut P,
+) -> Result<(), P::Fault>
+    requires layer { IsLayer layer }
+    requires of_layer { IsBoxOf layer b.now }
+    requires there { species < length layer.meshes.now }
+    requires within { first + count ≤ height b.now }
+    ensures { Puts P.wrote P.failed pen.old pen.new (some_rows layer.entry b.now species first count) result }
+{
+    put_species_line(layer, species, first, pen)?;
+    put_rows(layer.level(species), b, first, count, pen)
+}
+
+/// A box and its rows.
+fn put_box<P: Pen>(layer: Layer<'_>, b: &Bx, pen: &mut P) -> Result<(), P::Fault>
+    requires layer { IsLayer layer }
+    requires of_layer { IsBoxOf layer b.now }
+    ensures { Puts P.wrote P.failed pen.old pen.new (box_text (names_species layer.entry.problem.now) (masses_in layer.entry) b.now) result }
+{
+    pen.put_fragments(&box_row(layer, b))?;
+    let height = b.height();
+    for species in 0..layer.meshes.len() {
+        put_some_rows(layer, b, species, 0, height, pen)?;
+    }
+    Ok(())
+}
+
+/// Boxes of a level, in order.
+pub(crate) fn put_boxes<P: Pen>(layer: Layer<'_>, boxes: &[Bx], pen: &mut P) -> Result<(), P::Fault>
+    requires layer { IsLayer layer }
+    requires of_layer { All (IsBoxOf layer) boxes.now }
+    ensures { Puts P.wrote P.failed pen.old pen.new (flat_map (box_text (names_species layer.entry.problem.now) (masses_in layer.entry)) boxes.now) result }
 {
     for b in boxes {
-        put_box(p, l, level, b, text, sink)?;
+        put_box(layer, b, pen)?;
     }
     Ok(())
 }

@@ -1,91 +1,78 @@
 //! Levels: each its line, then its boxes in order.
 
-ghost use Rattle.std.specs.Prelude.{ℕ, ◌<◌, ◌≤◌, length, map, slice_index_or};
+ghost use Rattle.std.specs.Prelude.{◌≡◌, length, map};
 ghost use Rattle.std.specs.List.{flat_map};
-ghost use Rattle.amr_def.specs.Facts.{IsLevel};
-ghost use Rattle.amr_def.specs.Plot.{box_text, level_text, numbered};
-ghost use Rattle.amr_def.specs.State.{no_level};
-ghost use Rattle.amr_patch.specs.Levels.{level_of};
-ghost use Rattle.amr_plot.specs.Boxes.{joined};
-ghost use Rattle.amr_plot.specs.Puts.{Puts};
+ghost use Rattle.amr_def.specs.Plot.{box_text, level_text, names_species, numbered};
+ghost use Rattle.amr_def.specs.Species.{by_place, first_state};
+ghost use Rattle.amr_def.specs.State.{level_at};
+ghost use Rattle.amr_patch.specs.Meshes.{state_of};
+ghost use Rattle.amr_plot.specs.Layers.{ArePlotted, IsLayer, boxes_in, levels_in, masses_in};
+ghost use Rattle.amr_plot.specs.Pens.{Puts};
+ghost use Rattle.amr_plot.specs.Texts.{joined};
 
 use crate::boxes::put_boxes;
-use crate::lines::{level_row, put_line};
+use crate::layer::Layer;
+use crate::lines::level_row;
+use crate::pen::Pen;
 use crate::texts::TextMaker;
 use amr_def::Problem;
-use amr_io::{Sink, Text, WriteFault, write_whole};
-use amr_patch::Level;
-
-/// Bytes go past the buffer, once it has sent what it kept back.
-fn put_bytes<O: Sink>(bytes: &[u8], text: &mut Text, sink: &mut O) -> Result<(), WriteFault>
-    ensures { Puts O.holds O.faults sink.old sink.new text.old text.new bytes.now result }
-{
-    text.flush(sink)?;
-    write_whole(sink, bytes)
-}
+use amr_patch::Mesh;
 
 /// Texts that are made, in order.
-fn put_texts<O: Sink>(texts: &[Vec<u8>], text: &mut Text, sink: &mut O) -> Result<(), WriteFault>
-    ensures { Puts O.holds O.faults sink.old sink.new text.old text.new (joined texts.now) result }
+fn put_texts<P: Pen>(texts: &[Vec<u8>], pen: &mut P) -> Result<(), P::Fault>
+    ensures { Puts P.wrote P.failed pen.old pen.new (joined texts.now) result }
 {
     for made in texts {
-        put_bytes(made, text, sink)?;
+        pen.put_bytes(made)?;
     }
     Ok(())
 }
 
-/// All boxes of level `l`.
-fn put_level_boxes<S: TextMaker, O: Sink>(
+/// All boxes of a level.
+fn put_level_boxes<S: TextMaker, P: Pen>(
     maker: &S,
-    p: &Problem,
-    l: u32,
-    level: &Level,
-    text: &mut Text,
-    sink: &mut O,
-) -> Result<(), WriteFault>
+    layer: Layer<'_>,
+    pen: &mut P,
+) -> Result<(), P::Fault>
     requires shared { S.may_share maker.now }
-    requires fine { l ≤ 4 }
-    requires level { IsLevel p.now l (level_of level.now) }
-    ensures { Puts O.holds O.faults sink.old sink.new text.old text.new (flat_map (box_text (level_of level.now).masses) (level_of level.now).boxes) result }
+    requires layer { IsLayer layer }
+    ensures { Puts P.wrote P.failed pen.old pen.new (flat_map (box_text (names_species layer.entry.problem.now) (masses_in layer.entry)) (boxes_in layer.entry)) result }
 {
-    match maker.made_before(p, l, level) {
-        Some(texts) => put_texts(&texts, text, sink),
-        None => put_boxes(p, l, level, level.boxes(), text, sink),
+    match maker.made_before(layer) {
+        Some(texts) => put_texts(&texts, pen),
+        None => put_boxes(layer, layer.boxes(), pen),
     }
 }
 
-fn put_level<S: TextMaker, O: Sink>(
-    maker: &S,
-    p: &Problem,
-    l: u32,
-    level: &Level,
-    text: &mut Text,
-    sink: &mut O,
-) -> Result<(), WriteFault>
+fn put_level<S: TextMaker, P: Pen>(maker: &S, layer: Layer<'_>, pen: &mut P) -> Result<(), P::Fault>
     requires shared { S.may_share maker.now }
-    requires fine { l ≤ 4 }
-    requires level { IsLevel p.now l (level_of level.now) }
-    ensures { Puts O.holds O.faults sink.old sink.new text.old text.new (level_text l (level_of level.now)) result }
+    requires layer { IsLayer layer }
+    ensures { Puts P.wrote P.failed pen.old pen.new (level_text (names_species layer.entry.problem.now) layer.entry.l (levels_in layer.entry)) result }
 {
-    put_line(&level_row(l, level.boxes().len()), text, sink)?;
-    put_level_boxes(maker, p, l, level, text, sink)
+    pen.put_fragments(&level_row(layer.l, layer.boxes().len()))?;
+    put_level_boxes(maker, layer, pen)
 }
 
-/// The levels, from level 0 on.
-pub(crate) fn put_levels<S: TextMaker, O: Sink>(
+/// The levels, from level 0 on, by the mesh of each species.
+pub(crate) fn put_levels<S: TextMaker, P: Pen>(
     maker: &S,
     p: &Problem,
-    levels: &[Level],
-    text: &mut Text,
-    sink: &mut O,
-) -> Result<(), WriteFault>
+    meshes: &[Mesh],
+    pen: &mut P,
+) -> Result<(), P::Fault>
     requires shared { S.may_share maker.now }
-    requires few { length levels.now ≤ 5 }
-    requires levels { (l : ℕ) → l < length levels.now → IsLevel p.now l (slice_index_or (map level_of levels.now) l no_level) }
-    ensures { Puts O.holds O.faults sink.old sink.new text.old text.new (numbered level_text 0 (map level_of levels.now)) result }
+    requires plotted { ArePlotted p.now meshes.now }
+    ensures { let ss = map state_of meshes.now in Puts P.wrote P.failed pen.old pen.new
+        (numbered (level_text (names_species p.now)) 0 (by_place level_at (length (first_state ss).levels) ss)) result }
 {
-    for (l, level) in levels.iter().enumerate() {
-        put_level(maker, p, l as u32, level, text, sink)?;
+    let count = meshes[0].levels().len() as u32;
+    for l in 0..count {
+        let layer = Layer {
+            problem: p,
+            meshes,
+            l,
+        };
+        put_level(maker, layer, pen)?;
     }
     Ok(())
 }

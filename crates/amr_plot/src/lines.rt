@@ -1,36 +1,27 @@
 //! The lines between the rows of masses, as fragments.
 
-ghost use Rattle.std.specs.Prelude.{◌≡◌, ◌≤◌, ◌≤ℤ◌, pos, IsTrue};
-ghost use Rattle.amr_box.specs.declared.Cell.{Cell};
-ghost use Rattle.amr_box.specs.Cells.{holds};
-ghost use Rattle.amr_def.specs.Domain.{domain, in_domain};
-ghost use Rattle.amr_def.specs.Plot.{box_line, head_text, ledger_line};
+ghost use Rattle.std.specs.Prelude.{◌≡◌, ◌≤ℤ◌, pos, true};
+ghost use Rattle.amr_def.specs.Plot.{box_line, head_text, ledger_line, species_line};
 ghost use Rattle.amr_io.specs.Kept.{fragments_text};
-ghost use Rattle.amr_plot.specs.Puts.{Puts, level_head};
+ghost use Rattle.amr_plot.specs.Layers.{IsBoxOf, IsLayer};
+ghost use Rattle.amr_plot.specs.Texts.{level_head};
 
+use crate::layer::Layer;
 use amr_box::Bx;
 use amr_def::{Problem, Row};
-use amr_io::{Fragment, Sink, Text, WriteFault};
+use amr_io::Fragment;
 use std::str;
 
-/// Puts a line.
-pub(crate) fn put_line<O: Sink>(
-    line: &[Fragment<'_>],
-    text: &mut Text,
-    sink: &mut O,
-) -> Result<(), WriteFault>
-    ensures { Puts O.holds O.faults sink.old sink.new text.old text.new (fragments_text line.now) result }
-{
-    text.put_fragments(sink, line)
-}
-
 /// The head: the format, the name of the problem and the step.
-pub(crate) fn head(p: &Problem, step: u32) -> [Fragment<'_>; 5]
+pub(crate) fn head(p: &Problem, step: u32) -> [Fragment<'_>; 7]
     ensures { fragments_text result ≡ head_text p.now step }
 {
+    let format = if p.version >= 3 { "2" } else { "1" };
     match str::from_utf8(p.name.bytes()) {
         Ok(name) => [
-            Fragment::Str("amr-plot 1\nname "),
+            Fragment::Str("amr-plot "),
+            Fragment::Str(format),
+            Fragment::Str("\nname "),
             Fragment::Str(name),
             Fragment::Str("\nstep "),
             Fragment::Number(u64::from(step)),
@@ -40,19 +31,38 @@ pub(crate) fn head(p: &Problem, step: u32) -> [Fragment<'_>; 5]
     }
 }
 
-/// The line of row `k` of the ledger.
-pub(crate) fn ledger_row(k: u32, row: Row) -> [Fragment<'static>; 9]
-    ensures { fragments_text result ≡ ledger_line k row }
+/// The line of row `k` of a species' ledger, which has the species' number where plots name species.
+pub(crate) fn ledger_row(named: bool, k: u32, species: usize, row: Row) -> [Fragment<'static>; 11]
+    ensures { fragments_text result ≡ ledger_line named k species row }
 {
+    let number = if named {
+        [Fragment::Str(" "), Fragment::Number(species as u64)]
+    } else {
+        [Fragment::Str(""), Fragment::Str("")]
+    };
+    let [gap, species] = number;
     [
         Fragment::Str("ledger "),
         Fragment::Number(u64::from(k)),
+        gap,
+        species,
         Fragment::Str(" "),
         Fragment::Number(row.mass),
         Fragment::Str(" "),
         Fragment::Number(row.inflow),
         Fragment::Str(" "),
         Fragment::Number(row.outflow),
+        Fragment::Str("\n"),
+    ]
+}
+
+/// The line before a species' rows of a box.
+pub(crate) fn species_row(species: usize) -> [Fragment<'static>; 3]
+    ensures { fragments_text result ≡ species_line true species }
+{
+    [
+        Fragment::Str("species "),
+        Fragment::Number(species as u64),
         Fragment::Str("\n"),
     ]
 }
@@ -78,10 +88,10 @@ fn number(z: i32) -> u64
     z as u64
 }
 
-/// The line of a box of level `l`, in the domain.
-pub(crate) fn box_row(p: &Problem, l: u32, b: &Bx) -> [Fragment<'static>; 9]
-    requires fine { l ≤ 4 }
-    requires inside { (c : Cell) → IsTrue (holds b.now c) → IsTrue (in_domain (domain p.now l) c) }
+/// The line of a box of a level, in the domain.
+pub(crate) fn box_row(layer: Layer<'_>, b: &Bx) -> [Fragment<'static>; 9]
+    requires layer { IsLayer layer }
+    requires of_layer { IsBoxOf layer b.now }
     ensures { fragments_text result ≡ box_line b.now }
 {
     let lo = b.lo();

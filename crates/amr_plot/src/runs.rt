@@ -1,38 +1,34 @@
 //! The texts of a level's boxes, made by several threads: each has a run of the boxes' parts.
 
-ghost use Rattle.std.specs.Prelude.{◌≡◌, ℕ, ◌*◌, ◌<◌, ◌≤◌, List, length, take, IfOk};
+ghost use Rattle.std.specs.Prelude.{◌≡◌, ℕ, ◌*◌, ◌<◌, List, length, take, IfOk};
 ghost use Rattle.std.specs.List.{All, flat_map};
-ghost use Rattle.amr_def.specs.Facts.{IsLevel};
-ghost use Rattle.amr_def.specs.Plot.{box_text};
-ghost use Rattle.amr_patch.specs.Levels.{level_of};
-ghost use Rattle.amr_plot.specs.Boxes.{AreTextsOfRuns, joined};
+ghost use Rattle.amr_def.specs.Plot.{box_text, names_species};
 ghost use Rattle.amr_plot.specs.BoxParts.{IsPartOf, part_text};
+ghost use Rattle.amr_plot.specs.Layers.{IsLayer, boxes_in, masses_in};
+ghost use Rattle.amr_plot.specs.Texts.{AreTextsOfRuns, joined};
 ghost use Rattle.amr_plot.specs.declared.parts.Part.{Part};
 
+use crate::layer::Layer;
 use crate::parts::{Part, parts_of, put_parts};
+use crate::pen::Sheet;
 use amr_causes::NoMemory;
-use amr_def::Problem;
 use amr_io::{Page, Text, WriteFault};
-use amr_patch::Level;
 use std::alloc::Global;
 use std::thread::{Threads, map_chunks};
 
-/// The text of some parts of boxes of level `l`, in memory. It fails where there is none.
-fn text_of(
-    alloc: Global,
-    p: &Problem,
-    l: u32,
-    level: &Level,
-    parts: &[Part],
-) -> Result<Vec<u8>, WriteFault>
-    requires fine { l ≤ 4 }
-    requires of_level { All (IsPartOf p.now l level.now) parts.now }
-    ensures { IfOk result (λ v. v.items ≡ flat_map (part_text (level_of level.now).masses) parts.now) }
+/// The text of some parts of boxes, in memory. It fails where there is none.
+fn text_of(alloc: Global, layer: Layer<'_>, parts: &[Part]) -> Result<Vec<u8>, WriteFault>
+    requires layer { IsLayer layer }
+    requires of_layer { All (IsPartOf layer) parts.now }
+    ensures { IfOk result (λ v. v.items ≡ flat_map (part_text layer.entry) parts.now) }
 {
     let mut page = Page::make(alloc);
-    let mut text = Text::make();
-    put_parts(p, l, level, parts, &mut text, &mut page)?;
-    text.flush(&mut page)?;
+    let mut sheet = Sheet {
+        text: Text::make(),
+        sink: &mut page,
+    };
+    put_parts(layer, parts, &mut sheet)?;
+    sheet.finish()?;
     Ok(page.into_bytes())
 }
 
@@ -54,26 +50,23 @@ fn join_runs(
     Ok(texts)
 }
 
-/// The texts of the boxes of level `l`, of each run of their parts one, in order. At most `threads` runs are written at once.
+/// The texts of the boxes of a level, of each run of their parts one, in order. At most `threads` runs are written at once.
 pub(crate) fn texts_by_runs<R: Threads + Sync>(
     rt: &R,
     threads: usize,
     alloc: Global,
-    p: &Problem,
-    l: u32,
-    level: &Level,
+    layer: Layer<'_>,
 ) -> Result<Vec<Vec<u8>>, NoMemory>
     requires some { 0 < threads }
-    requires fine { l ≤ 4 }
-    requires level { IsLevel p.now l (level_of level.now) }
-    ensures { IfOk result (λ v. joined v.items ≡ flat_map (box_text (level_of level.now).masses) (level_of level.now).boxes) }
+    requires layer { IsLayer layer }
+    ensures { IfOk result (λ v. joined v.items ≡ flat_map (box_text (names_species layer.entry.problem.now) (masses_in layer.entry)) (boxes_in layer.entry)) }
 {
-    let parts = parts_of(alloc, level.boxes())?;
+    let parts = parts_of(alloc, layer, layer.boxes())?;
     let size = parts.len().div_ceil(threads).max(1);
     let write = move |_from: usize, run: &[Part]| -> Result<Vec<u8>, WriteFault>
-        requires { (l ≤ 4) × All (IsPartOf p.now l level.now) run.now }
-        ensures { IfOk result (λ v. v.items ≡ flat_map (part_text (level_of level.entry.now).masses) run.entry.now) }
-    { text_of(alloc, p, l, level, run) };
+        requires { IsLayer layer × All (IsPartOf layer) run.now }
+        ensures { IfOk result (λ v. v.items ≡ flat_map (part_text layer.entry) run.entry.now) }
+    { text_of(alloc, layer, run) };
     let runs = map_chunks(rt, alloc, &parts, size, &write)?;
     join_runs(alloc, runs)
 }

@@ -1,15 +1,14 @@
 //! Who makes the texts of a level's boxes: the caller alone, or several threads before they are put.
 
-ghost use Rattle.std.specs.Prelude.{◌≡◌, ◌≤◌, IfSome};
+ghost use Rattle.std.specs.Prelude.{◌≡◌, IfSome};
 ghost use Rattle.std.specs.List.{flat_map};
-ghost use Rattle.amr_def.specs.Facts.{IsLevel};
-ghost use Rattle.amr_def.specs.Plot.{box_text};
-ghost use Rattle.amr_patch.specs.Levels.{level_of};
-ghost use Rattle.amr_plot.specs.Boxes.{joined};
+ghost use Rattle.amr_def.specs.Plot.{box_text, names_species};
+ghost use Rattle.amr_plot.specs.Layers.{IsLayer, boxes_in, masses_in};
+ghost use Rattle.amr_plot.specs.Texts.{joined};
 
+use crate::layer::Layer;
 use crate::runs::texts_by_runs;
-use amr_def::Problem;
-use amr_patch::{Level, Patch};
+use amr_patch::Patch;
 use std::alloc::Global;
 use std::thread::Threads;
 
@@ -23,13 +22,12 @@ pub(crate) trait TextMaker {
     // That threads may share the runtime, where there is one.
     ghost may_share: { Self → Type 0 };
 
-    /// The texts of the boxes of level `l`, made before they are put, some parts of boxes in each. `None` where the caller is to
+    /// The texts of the boxes of a level, made before they are put, some parts of boxes in each. `None` where the caller is to
     /// put the boxes itself.
-    fn made_before(&self, p: &Problem, l: u32, level: &Level) -> Option<Vec<Vec<u8>>>
+    fn made_before(&self, layer: Layer<'_>) -> Option<Vec<Vec<u8>>>
         requires shared { may_share self.now }
-        requires fine { l ≤ 4 }
-        requires level { IsLevel p.now l (level_of level.now) }
-        ensures { IfSome result (λ v. joined v.items ≡ flat_map (box_text (level_of level.now).masses) (level_of level.now).boxes) };
+        requires layer { IsLayer layer }
+        ensures { IfSome result (λ v. joined v.items ≡ flat_map (box_text (names_species layer.entry.problem.now) (masses_in layer.entry)) (boxes_in layer.entry)) };
 }
 
 /// The calling thread puts all boxes, and takes no memory.
@@ -39,7 +37,7 @@ pub(crate) struct Putter;
 impl TextMaker for Putter {
     ghost may_share = { λ _. Unit {0} };
 
-    fn made_before(&self, _p: &Problem, _l: u32, _level: &Level) -> Option<Vec<Vec<u8>>> {
+    fn made_before(&self, _layer: Layer<'_>) -> Option<Vec<Vec<u8>>> {
         None
     }
 }
@@ -57,11 +55,11 @@ impl<R: Threads + Sync> TextMaker for TextThreads<'_, R> {
 
     ghost may_share = { λ _. IsSync R.row };
 
-    fn made_before(&self, p: &Problem, l: u32, level: &Level) -> Option<Vec<Vec<u8>>> {
-        if self.threads < 2 || !are_many(level.patches()) {
+    fn made_before(&self, layer: Layer<'_>) -> Option<Vec<Vec<u8>>> {
+        if self.threads < 2 || !are_many(layer.level(0).patches()) {
             return None;
         }
-        texts_by_runs(self.runtime, self.threads, self.alloc, p, l, level).ok()
+        texts_by_runs(self.runtime, self.threads, self.alloc, layer).ok()
     }
 }
 

@@ -1,5 +1,5 @@
 -- Bytes without a fault are a problem.
-use Rattle.std.proofs.Common.{◌≡◌, ◌∙◌, sym, ap, refl, ℕ, true, ℤ, pos, negsuc, ◌≤ℤ◌, unsigned_abs, inl, inr, List, [], ◌∷◌, map, length, drop, Option, None, Some, is_none, option_map, int_lt, false, arith}
+use Rattle.std.proofs.Common.{◌≡◌, ◌∙◌, sym, ap, refl, ℕ, true, ℤ, pos, negsuc, ◌≤ℤ◌, unsigned_abs, inl, inr, List, [], ◌∷◌, map, length, drop, get_or, Option, None, Some, is_none, option_map, int_lt, false, arith}
 use Rattle.std.proofs.lemmas.Bool.{cases_Bool, and_parts, true≢false}
 use Rattle.std.proofs.lemmas.Int.{ints}
 use Rattle.std.proofs.lemmas.Option.{same_Some}
@@ -12,27 +12,23 @@ use Rattle.amr_def.specs.declared.problem.Sides.TheVariants.{Periodic, Open}
 use Rattle.amr_def.specs.declared.problem.Sides as sides
 use Rattle.amr_problem.specs.declared.entries.Entries.{Entries}
 use Rattle.amr_problem.specs.declared.fault.ProblemFault.{ProblemFault}
-use Rattle.amr_problem.specs.declared.key.Key.TheVariants.{Cells, Sides, MaxLevel, Tag, Blocks, Blocking}
+use Rattle.amr_problem.specs.declared.key.Key.TheVariants.{Cells, Sides, MaxLevel, Tag, Blocks, Blocking, Species}
 use Rattle.amr_problem.specs.Document.{table_of}
 use Rattle.amr_problem.specs.Entries.{IsReadOf, IsSide, IsClean, range_fault, in_range_fault, entry_fault}
-use Rattle.amr_problem.specs.Faults.{too_long, not_toml, unknown_key, missing_key, wrong_kind, out_of_range, courant_fault, sides_differ, block_outside, tag_count, blocking_misfit, fault_in, is_periodic}
+use Rattle.amr_problem.specs.Faults.{too_long, not_toml, unknown_key, missing_key, wrong_kind, out_of_range, courant_fault, sides_differ, block_outside, tag_count, blocking_misfit, species_outside, fault_in, is_periodic, version_in}
 use Rattle.amr_problem.specs.Fields.{sides_numbers, block_numbers, AreValues}
 use Rattle.amr_problem.specs.Judgement.{fault_of, HasKeys, IsProblemOf}
-use Rattle.amr_problem.specs.Keys.{ranges_of, range, coordinate, threshold, blocking_factor, holds, first_outside}
-use Rattle.amr_problem.specs.Values.{◌>>=◌, integers_at, number_at, numbers_at, numbers_of, rows_at, rows_in, rows_of, value_at}
+use Rattle.amr_problem.specs.Keys.{ranges_of, threshold, blocking_factor, holds, first_outside}
+use Rattle.amr_problem.specs.Values.{◌>>=◌, integers_at, number_at, numbers_at, block_of, rows_at, rows_in, rows_of, value_at}
 use Rattle.amr_problem.proofs.EntryLaws.{in_range}
 use Rattle.amr_problem.proofs.FirstSome.{both_none, fold-none}
-use Rattle.amr_problem.proofs.JudgementLaws.{fault_in-entries, has_keys, has_shears, is_clean}
-use Rattle.amr_problem.proofs.ProblemLaws.{has_limits}
-use Rattle.amr_problem.proofs.RangeLaws.{holds-IsIn, first_outside-none}
-use Rattle.amr_problem.proofs.Shapes.{five, none_from_test}
-use Rattle.amr_problem.proofs.TableEntries.{entries_of, length-numbers_in}
+use Rattle.amr_problem.proofs.JudgementLaws.{fault_in-entries, fits_basics, has_keys, is_clean}
+use Rattle.amr_problem.proofs.ProblemLaws.{block_as, block_as-numbers, has_limits, whole}
+use Rattle.amr_problem.proofs.RangeLaws.{holds-IsIn}
+use Rattle.amr_problem.proofs.Shapes.{six, none_from_test}
+use Rattle.amr_problem.proofs.TableEntries.{entries_of, length-block_of}
 
 -- ---- from integers to the fields of a problem
-
-whole : (z : ℤ) → pos 0 ≤ℤ z → z ≡ pos (unsigned_abs z)
-whole (pos n) h = refl
-whole (negsuc n) h = absurd (omega (arith, ints))
 
 all_whole : (zs : List ℤ) → list_all (holds threshold) zs ≡ true → zs ≡ map pos (map unsigned_abs zs)
 all_whole [] h = refl
@@ -61,27 +57,11 @@ two_sides (negsuc l) (negsuc h) in_low in_high alike =
     let h_is : h ≡ 0 = omega (arith, ints) in
     (Periodic, rw (l_is, h_is))
 
-block_row : (a b c d e : ℤ) → first_outside (ranges_of Blocks) (a ∷ b ∷ c ∷ d ∷ e ∷ []) ≡ None → (k : Block) × (a ∷ b ∷ c ∷ d ∷ e ∷ [] ≡ block_numbers k)
-block_row a b c d e h =
-    let mass = range (pos 0) (pos 1073741824) in
-    let x0 = first_outside-none coordinate (coordinate ∷ coordinate ∷ coordinate ∷ mass ∷ []) a (b ∷ c ∷ d ∷ e ∷ []) h in
-    let y0 = first_outside-none coordinate (coordinate ∷ coordinate ∷ mass ∷ []) b (c ∷ d ∷ e ∷ []) x0.others in
-    let x1 = first_outside-none coordinate (coordinate ∷ mass ∷ []) c (d ∷ e ∷ []) y0.others in
-    let y1 = first_outside-none coordinate (mass ∷ []) d (e ∷ []) x1.others in
-    let m = first_outside-none mass [] e [] y1.others in
-    let k : Block = record { x0 = unsigned_abs a; y0 = unsigned_abs b; x1 = unsigned_abs c; y1 = unsigned_abs d; mass = unsigned_abs e } in
-    let a_is : a ≡ pos (unsigned_abs a) = whole a x0.here.least in
-    let b_is : b ≡ pos (unsigned_abs b) = whole b y0.here.least in
-    let c_is : c ≡ pos (unsigned_abs c) = whole c x1.here.least in
-    let d_is : d ≡ pos (unsigned_abs d) = whole d y1.here.least in
-    let e_is : e ≡ pos (unsigned_abs e) = whole e m.here.least in
-    (k, cc)
-
-block_of : (zs : List ℤ) → length zs ≡ 5 → first_outside (ranges_of Blocks) zs ≡ None → (k : Block) × (zs ≡ block_numbers k)
-block_of zs many h =
-    let is = five zs many in
-    let k = block_row _ _ _ _ _ (rw is at h) in
-    (k.0, is ∙ k.1)
+block_from : (zs : List ℤ) → length zs ≡ 6 → first_outside (ranges_of Blocks) zs ≡ None → (k : Block) × (zs ≡ block_numbers k)
+block_from zs many h =
+    let is = six zs many in
+    let z : ℕ → ℤ = λ i. get_or zs i (pos 0) in
+    (block_as (z 0) (z 1) (z 2) (z 3) (z 4) (z 5), is ∙ block_as-numbers (z 0) (z 1) (z 2) (z 3) (z 4) (z 5) (rw is at h))
 
 -- the parts of what is read one by one
 record Parts {A : Type 0} (first : Option A) (others : Option (List A)) (xs : List A) : Type 0 where
@@ -99,31 +79,31 @@ parts (Some z) (Some ys) xs h = record { head = z; tail = ys; first_is = refl; o
 abbrev AreInRange : List (List ℤ) → Type 0
 AreInRange rows = list_all (λ row. is_none (first_outside (ranges_of Blocks) row)) rows ≡ true
 
-blocks_in : (items : Items) (rows : List (List ℤ)) → rows_in 5 items ≡ Some rows → AreInRange rows → (ks : List Block) × (rows ≡ map block_numbers ks)
-blocks_in no_items rows h inside = ([], sym (same_Some [] rows h))
-blocks_in (item d rest) rows h inside =
-    let p = parts (numbers_of 5 d) (rows_in 5 rest) rows h in
+blocks_in : (version : ℕ) (items : Items) (rows : List (List ℤ)) → rows_in version items ≡ Some rows → AreInRange rows → (ks : List Block) × (rows ≡ map block_numbers ks)
+blocks_in version no_items rows h inside = ([], sym (same_Some [] rows h))
+blocks_in version (item d rest) rows h inside =
+    let p = parts (block_of version d) (rows_in version rest) rows h in
     let (here, others) = and_parts (is_none (first_outside (ranges_of Blocks) p.head)) (list_all (λ row. is_none (first_outside (ranges_of Blocks) row)) p.tail) (rw p.all at inside) in
-    let first = block_of p.head (length-numbers_in 5 (as_array d) p.head p.first_is) (none_from_test _ here) in
-    let more = blocks_in rest p.tail p.others_are others in
+    let first = block_from p.head (length-block_of version d p.head p.first_is) (none_from_test _ here) in
+    let more = blocks_in version rest p.tail p.others_are others in
     (first.0 ∷ more.0, p.all ∙ ap (λ (z : List ℤ). z ∷ p.tail) first.1 ∙ ap (λ (zs : List (List ℤ)). block_numbers first.0 ∷ zs) more.1)
 
-blocks_of : (d : Option Items) (rows : List (List ℤ)) → d >>= rows_in 5 ≡ Some rows → AreInRange rows → (ks : List Block) × (rows ≡ map block_numbers ks)
-blocks_of None rows h inside = absurd (cc)
-blocks_of (Some items) rows h inside = blocks_in items rows h inside
+blocks_of : (version : ℕ) (d : Option Items) (rows : List (List ℤ)) → d >>= rows_in version ≡ Some rows → AreInRange rows → (ks : List Block) × (rows ≡ map block_numbers ks)
+blocks_of version None rows h inside = absurd (cc)
+blocks_of version (Some items) rows h inside = blocks_in version items rows h inside
 
-blocks_read : (d : Option Data) (rows : List (List ℤ)) → d >>= rows_of 5 ≡ Some rows → AreInRange rows → (ks : List Block) × (rows ≡ map block_numbers ks)
-blocks_read None rows h inside = absurd (cc)
-blocks_read (Some d) rows h inside = blocks_of (as_array d) rows h inside
+blocks_read : (version : ℕ) (d : Option Data) (rows : List (List ℤ)) → d >>= rows_of version ≡ Some rows → AreInRange rows → (ks : List Block) × (rows ≡ map block_numbers ks)
+blocks_read version None rows h inside = absurd (cc)
+blocks_read version (Some d) rows h inside = blocks_of version (as_array d) rows h inside
 
-blocks_at : (table : Members) (rows : List (List ℤ)) → rows_at 5 table Blocks ≡ Some rows → AreInRange rows → (ks : List Block) × (rows ≡ map block_numbers ks)
+blocks_at : (version : ℕ) (table : Members) (rows : List (List ℤ)) → rows_at version table Blocks ≡ Some rows → AreInRange rows → (ks : List Block) × (rows ≡ map block_numbers ks)
 unfolding rows_at
-blocks_at table rows h inside = blocks_read (value_at table Blocks) rows h inside
+blocks_at version table rows h inside = blocks_read version (value_at table Blocks) rows h inside
 
 -- ---- the problem of entries
 
-problem_of : (table : Members) (e : Entries) → IsReadOf table e → IsClean e → (p : Problem) × HasKeys table p
-problem_of table e read clean =
+problem_of : (table : Members) (e : Entries) → unknown_key table ≡ None → IsReadOf table e → IsClean e → (p : Problem) × HasKeys table p
+problem_of table e known read clean =
     let b = e.basics in
     let r = e.refining in
     let o = e.overlay in
@@ -132,7 +112,7 @@ problem_of table e read clean =
     let in_o = clean.in_range.overlay in
     let xs = two_sides b.x_low b.x_high in_b.x_low in_b.x_high clean.x_alike in
     let ys = two_sides b.y_low b.y_high in_b.y_low in_b.y_high clean.y_alike in
-    let ks = blocks_at table o.blocks.items read.overlay.blocks in_o.blocks in
+    let ks = blocks_at (version_in table) table o.blocks.items read.overlay.blocks in_o.blocks in
     let factor = holds-IsIn blocking_factor o.blocking in_o.blocking in
     let version_least : pos 1 ≤ℤ b.version = in_b.least_version in
     let nx_least : pos 2 ≤ℤ b.nx = in_b.least_nx in
@@ -143,7 +123,8 @@ problem_of table e read clean =
     let interval_least : pos 1 ≤ℤ r.regrid_int = in_r.least_regrid_int in
     let grid_least : pos 4 ≤ℤ r.max_grid_size = in_r.least_max_grid_size in
     let blocking_least : pos 2 ≤ℤ o.blocking = factor.least in
-    let values : AreValues e (unsigned_abs b.version) b.name.items (unsigned_abs b.nx) (unsigned_abs b.ny) (unsigned_abs b.steps) b.cx b.cy (unsigned_abs b.d) o.shear_x.items o.shear_y.items xs.0 ys.0 (unsigned_abs b.max_level) (map unsigned_abs r.tag.items) (unsigned_abs r.n_error_buf) (unsigned_abs r.efficiency) (unsigned_abs r.min_width) (unsigned_abs r.regrid_int) (unsigned_abs o.blocking) (unsigned_abs r.max_grid_size) ks.0 = record {
+    let species_least : pos 1 ≤ℤ o.species = in_o.least_species in
+    let values : AreValues e (unsigned_abs b.version) b.name.items (unsigned_abs b.nx) (unsigned_abs b.ny) (unsigned_abs b.steps) b.cx b.cy (unsigned_abs b.d) o.shear_x.items o.shear_y.items xs.0 ys.0 (unsigned_abs b.max_level) (map unsigned_abs r.tag.items) (unsigned_abs r.n_error_buf) (unsigned_abs r.efficiency) (unsigned_abs r.min_width) (unsigned_abs r.regrid_int) (unsigned_abs o.blocking) (unsigned_abs r.max_grid_size) ks.0 (unsigned_abs o.species) = record {
       version_is = whole b.version (omega (arith, ints));
       name_is = refl;
       nx_is = whole b.nx (omega (arith, ints));
@@ -165,6 +146,7 @@ problem_of table e read clean =
       blocking_is = whole o.blocking (omega (arith, ints));
       max_grid_size_is = whole r.max_grid_size (omega (arith, ints));
       blocks_are = ks.1;
+      species_is = whole o.species (omega (arith, ints));
     } in
     let p : Problem = record {
       version = unsigned_abs b.version;
@@ -188,16 +170,18 @@ problem_of table e read clean =
       blocking = unsigned_abs o.blocking;
       max_grid_size = unsigned_abs r.max_grid_size;
       blocks = ks.0;
-      limits = has_limits e clean (has_shears table e read) values;
+      species = unsigned_abs o.species;
+      limits = has_limits e clean (fits_basics table e known read) values;
     } in
     (p, has_keys table e p read values)
 
 of_table : (table : Members) → fault_in table ≡ None → (p : Problem) × HasKeys table p
 of_table table none =
     let later : List (Option ProblemFault) = (numbers_at 4 table Sides >>= sides_differ)
-    ∷ (numbers_at 2 table Cells >>= (λ cells. rows_at 5 table Blocks >>= block_outside cells))
+    ∷ (numbers_at 2 table Cells >>= (λ cells. rows_at (version_in table) table Blocks >>= block_outside cells))
     ∷ (number_at table MaxLevel >>= (λ levels. integers_at table Tag >>= tag_count levels))
     ∷ (numbers_at 2 table Cells >>= (λ cells. number_at table Blocking >>= blocking_misfit cells))
+    ∷ (number_at table Species >>= (λ many. rows_at (version_in table) table Blocks >>= species_outside many))
     ∷ [] in
     let unknown = fold-none (unknown_key table) (missing_key table ∷ wrong_kind table ∷ out_of_range table ∷ courant_fault table ∷ later) none in
     let missing = fold-none (missing_key table) (wrong_kind table ∷ out_of_range table ∷ courant_fault table ∷ later) unknown.second in
@@ -205,13 +189,13 @@ of_table table none =
     let outside = fold-none (out_of_range table) (courant_fault table ∷ later) wrong.second in
     let courant = fold-none (courant_fault table) later outside.second in
     let differ = fold-none (numbers_at 4 table Sides >>= sides_differ) (drop 1 later) courant.second in
-    let blocks = fold-none (numbers_at 2 table Cells >>= (λ cells. rows_at 5 table Blocks >>= block_outside cells)) (drop 2 later) differ.second in
+    let blocks = fold-none (numbers_at 2 table Cells >>= (λ cells. rows_at (version_in table) table Blocks >>= block_outside cells)) (drop 2 later) differ.second in
     let tags = fold-none (number_at table MaxLevel >>= (λ levels. integers_at table Tag >>= tag_count levels)) (drop 3 later) blocks.second in
     let e = entries_of table (record { kinds = wrong.first; ranges = outside.first; tags = tags.first }) in
     let absent : option_or (unknown_key table) (missing_key table) ≡ None = rw unknown.first missing.first in
     let same : fault_in table ≡ entry_fault e.0 = fault_in-entries table e.0 absent wrong.first e.1 in
     let both = both_none (range_fault e.0) (in_range_fault e.0) (sym same ∙ none) in
-    problem_of table e.0 e.1 (is_clean e.0 (in_range e.0 both.first) both.second)
+    problem_of table e.0 unknown.first e.1 (is_clean e.0 (in_range e.0 both.first) both.second)
 
 pub is_problem : (bytes : List ℕ) → fault_of bytes ≡ None → (p : Problem) × IsProblemOf bytes p
 unfolding fault_of

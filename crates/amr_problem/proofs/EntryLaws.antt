@@ -13,8 +13,8 @@ use Rattle.amr_problem.specs.declared.entries.Overlay.{Overlay}
 use Rattle.amr_problem.specs.declared.entries.Entries.{Entries}
 use Rattle.amr_problem.specs.declared.fault.ProblemFault.{ProblemFault}
 use Rattle.amr_problem.specs.declared.fault.ProblemFault.TheVariants.{OutOfRange}
-use Rattle.amr_problem.specs.declared.key.Key.TheVariants.{Version, Name, Cells, Steps, Courant, Sides, MaxLevel, Tag, NErrorBuf, Efficiency, MinWidth, RegridInt, MaxGridSize, Blocks, ShearX, ShearY, Blocking}
-use Rattle.amr_problem.specs.Keys.{range, even_range, ranges_of, holds, first_outside, first_beyond, cell_count, courant_number, side, threshold, blocking_factor}
+use Rattle.amr_problem.specs.declared.key.Key.TheVariants.{Version, Name, Cells, Steps, Courant, Sides, MaxLevel, Tag, NErrorBuf, Efficiency, MinWidth, RegridInt, MaxGridSize, Blocks, ShearX, ShearY, Blocking, Species}
+use Rattle.amr_problem.specs.Keys.{range, even_range, versions, ranges_of, holds, first_outside, first_beyond, cell_count, courant_number, side, threshold, blocking_factor}
 use Rattle.amr_problem.specs.Values.{numbers_at}
 use Rattle.amr_problem.specs.Faults.{first_some, key_outside, out_of_range, text_outside, rows_outside}
 use Rattle.amr_problem.specs.Entries.{basic_keys, refining_keys, overlay_keys, AreBasicsOf, AreRefiningOf, IsOverlayOf, IsReadOf, IsSide, AreBasicsInRange, AreRefiningInRange, IsOverlayInRange, IsInRange, numbers_outside, basics_outside, refining_outside, overlay_outside, range_fault}
@@ -33,7 +33,7 @@ same_refining table r h = rw (h.tag, h.n_error_buf, h.efficiency, h.min_width, h
 
 same_overlay : (table : Members) (nx ny : ℤ) (o : Overlay) → numbers_at 2 table Cells ≡ Some (nx ∷ ny ∷ []) → IsOverlayOf nx ny table o → first_some (map (key_outside table) overlay_keys) ≡ overlay_outside o
 unfolding overlay_outside
-same_overlay table nx ny o cells h = rw (cells, h.blocks, h.shear_x, h.shear_y, h.blocking)
+same_overlay table nx ny o cells h = rw (cells, h.blocks, h.shear_x, h.shear_y, h.blocking, h.species)
 
 pub same_ranges : (table : Members) (e : Entries) → IsReadOf table e → out_of_range table ≡ range_fault e
 same_ranges table e r =
@@ -99,7 +99,7 @@ basics_in_range b none =
     let n5 = fold-none courant (sides ∷ max_level ∷ []) n4.second in
     let n6 = fold-none sides (max_level ∷ []) n5.second in
     let n7 = fold-none max_level [] n6.second in
-    let version_is = first_outside-none (range (pos 1) (pos 2)) [] b.version [] (option_map-none (OutOfRange Version) _ n1.first) in
+    let version_is = first_outside-none versions [] b.version [] (option_map-none (OutOfRange Version) _ n1.first) in
     let named = name_from_none b.name.items (option_map-none (OutOfRange Name) _ n2.first) in
     let nx = first_outside-none cell_count (cell_count ∷ []) b.nx (b.ny ∷ []) (option_map-none (OutOfRange Cells) _ n3.first) in
     let ny = first_outside-none cell_count [] b.ny [] nx.others in
@@ -176,10 +176,13 @@ overlay_in_range o none =
     let shear_x : Option ProblemFault = option_map (OutOfRange ShearX) (first_beyond courant_number o.shear_x.items) in
     let shear_y : Option ProblemFault = option_map (OutOfRange ShearY) (first_beyond courant_number o.shear_y.items) in
     let blocking : Option ProblemFault = numbers_outside Blocking (o.blocking ∷ []) in
-    let n1 = fold-none (option_map (OutOfRange Blocks) (rows_outside 256 (ranges_of Blocks) o.blocks.items)) (shear_x ∷ shear_y ∷ blocking ∷ []) none in
-    let n2 = fold-none shear_x (shear_y ∷ blocking ∷ []) n1.second in
-    let n3 = fold-none shear_y (blocking ∷ []) n2.second in
-    let n4 = fold-none blocking [] n3.second in
+    let species : Option ProblemFault = numbers_outside Species (o.species ∷ []) in
+    let n1 = fold-none (option_map (OutOfRange Blocks) (rows_outside 256 (ranges_of Blocks) o.blocks.items)) (shear_x ∷ shear_y ∷ blocking ∷ species ∷ []) none in
+    let n2 = fold-none shear_x (shear_y ∷ blocking ∷ species ∷ []) n1.second in
+    let n3 = fold-none shear_y (blocking ∷ species ∷ []) n2.second in
+    let n4 = fold-none blocking (species ∷ []) n3.second in
+    let n5 = fold-none species [] n4.second in
+    let many = first_outside-none (range (pos 1) (pos 4)) [] o.species [] (option_map-none (OutOfRange Species) _ n5.first) in
     let rows = rows_from_none o.blocks.items (option_map-none (OutOfRange Blocks) _ n1.first) in
     record {
       block_count = rows.many;
@@ -187,6 +190,8 @@ overlay_in_range o none =
       shear_x = first_beyond-none courant_number o.shear_x.items (option_map-none (OutOfRange ShearX) _ n2.first);
       shear_y = first_beyond-none courant_number o.shear_y.items (option_map-none (OutOfRange ShearY) _ n3.first);
       blocking = first_outside-holds blocking_factor o.blocking (option_map-none (OutOfRange Blocking) _ n4.first);
+      least_species = many.here.least;
+      greatest_species = many.here.greatest;
     }
 
 pub in_range : (e : Entries) → range_fault e ≡ None → IsInRange e

@@ -1,20 +1,21 @@
 -- From the entries of a table to its problem.
-use Rattle.std.proofs.Common.{◌≡◌, ◌∙◌, ap, ℤ, List, [], ◌∷◌, ◌++◌, Option, Some, None}
+use Rattle.std.proofs.Common.{◌≡◌, ◌∙◌, ap, subst, ℕ, map, ℤ, pos, List, [], ◌∷◌, ◌++◌, Option, Some, None}
 use Rattle.std.specs.Option.{option_or}
 use Rattle.toml.specs.Data.{Members}
 use Rattle.amr_def.specs.declared.problem.Problem.{Problem}
 use Rattle.amr_problem.specs.declared.entries.Entries.{Entries}
 use Rattle.amr_problem.specs.declared.fault.ProblemFault.{ProblemFault}
-use Rattle.amr_problem.specs.Faults.{unknown_key, missing_key, wrong_kind, courant_over, sides_differ, block_outside, tag_count, blocking_misfit, fault_in}
-use Rattle.amr_problem.specs.Entries.{IsReadOf, HasShears, IsInRange, IsClean, range_fault, in_range_fault, entry_fault}
-use Rattle.amr_problem.specs.Fields.{IsOfEntries}
+use Rattle.amr_problem.specs.declared.key.Key.TheVariants.{Version, Blocks}
+use Rattle.amr_problem.specs.Faults.{unknown_key, missing_key, wrong_kind, courant_over, sides_differ, block_outside, tag_count, blocking_misfit, species_outside, fault_in}
+use Rattle.amr_problem.specs.Entries.{IsReadOf, FitsBasics, IsInRange, IsClean, range_fault, in_range_fault, entry_fault}
+use Rattle.amr_problem.specs.Fields.{IsOfEntries, block_numbers}
 use Rattle.amr_problem.specs.Judgement.{HasKeys}
 use Rattle.amr_problem.proofs.EntryLaws.{same_ranges}
 use Rattle.amr_problem.proofs.FirstSome.{first_some-cons, fold-none}
 use Rattle.amr_problem.proofs.ProblemLaws.{alike_from_none, fits_from_none}
+use Rattle.amr_problem.specs.Values.{number_at, rows_at}
 use Rattle.amr_problem.proofs.ValueLaws.{shear_at-for_each}
-
--- ---- the first key of another kind
+use Rattle.amr_problem.proofs.VersionLaws.{one_species, version_in-is}
 
 -- ---- the fault of a table
 
@@ -26,19 +27,21 @@ later_faults e =
     ∷ block_outside (e.basics.nx ∷ e.basics.ny ∷ []) e.overlay.blocks.items
     ∷ tag_count e.basics.max_level e.refining.tag.items
     ∷ blocking_misfit (e.basics.nx ∷ e.basics.ny ∷ []) e.overlay.blocking
+    ∷ species_outside e.overlay.species e.overlay.blocks.items
     ∷ []
 
 -- where the keys are right, the fault is that of the entries
 pub fault_in-entries : (table : Members) (e : Entries) → option_or (unknown_key table) (missing_key table) ≡ None → wrong_kind table ≡ None → IsReadOf table e → fault_in table ≡ entry_fault e
 fault_in-entries table e absent kinds r =
-    rw (absent, kinds, same_ranges table e r, r.basics.courant, r.basics.sides, r.basics.cells, r.basics.max_level, r.refining.tag, r.overlay.blocks, r.overlay.shear_x, r.overlay.shear_y, r.overlay.blocking) (first_some-cons (range_fault e) (later_faults e))
+    rw (absent, kinds, same_ranges table e r, r.basics.courant, r.basics.sides, r.basics.cells, r.basics.max_level, r.refining.tag, r.overlay.blocks, r.overlay.shear_x, r.overlay.shear_y, r.overlay.blocking, r.overlay.species) (first_some-cons (range_fault e) (later_faults e))
 
 -- ---- from entries to keys
 
-pub has_shears : (table : Members) (e : Entries) → IsReadOf table e → HasShears e.basics.nx e.basics.ny e.overlay
-has_shears table e r = record {
+pub fits_basics : (table : Members) (e : Entries) → unknown_key table ≡ None → IsReadOf table e → FitsBasics e.basics e.overlay
+fits_basics table e known r = record {
   rows = shear_at-for_each e.basics.ny table _ _ r.overlay.shear_x;
   columns = shear_at-for_each e.basics.nx table _ _ r.overlay.shear_y;
+  alone = one_species table e.basics.version e.overlay.species known r.basics.version r.overlay.species;
 }
 
 -- the sides of both axes
@@ -50,8 +53,10 @@ has_keys table e p r v =
     let b = r.basics in
     let f = r.refining in
     let o = r.overlay in
+    let version : number_at table Version ≡ Some (pos p.version) = b.version ∙ ap Some v.version_is in
+    let same = version_in-is table p.version version p.limits.first_version p.limits.last_version in
     record {
-      version = b.version ∙ ap Some v.version_is;
+      version = version;
       name = b.name ∙ ap Some v.name_is;
       cells = b.cells ∙ rw (v.nx_is, v.ny_is);
       steps = b.steps ∙ ap Some v.steps_is;
@@ -64,10 +69,11 @@ has_keys table e p r v =
       min_width = f.min_width ∙ ap Some v.min_width_is;
       regrid_int = f.regrid_int ∙ ap Some v.regrid_int_is;
       max_grid_size = f.max_grid_size ∙ ap Some v.max_grid_size_is;
-      blocks = o.blocks ∙ ap Some v.blocks_are;
+      blocks = subst (λ (n : ℕ). rows_at n table Blocks ≡ Some (map block_numbers p.blocks)) same (o.blocks ∙ ap Some v.blocks_are);
       shear_x = rw v.ny_is at (o.shear_x ∙ ap Some v.shear_x_is);
       shear_y = rw v.nx_is at (o.shear_y ∙ ap Some v.shear_y_is);
       blocking = o.blocking ∙ ap Some v.blocking_is;
+      species = o.species ∙ ap Some v.species_is;
     }
 
 -- ---- entries without a fault
@@ -78,7 +84,8 @@ is_clean e inside none =
     let o = e.overlay in
     let sides = b.x_low ∷ b.x_high ∷ b.y_low ∷ b.y_high ∷ [] in
     let cells = b.nx ∷ b.ny ∷ [] in
-    let from_blocking = blocking_misfit cells o.blocking ∷ [] in
+    let from_species = species_outside o.species o.blocks.items ∷ [] in
+    let from_blocking = blocking_misfit cells o.blocking ∷ from_species in
     let from_tag = tag_count b.max_level e.refining.tag.items ∷ from_blocking in
     let from_blocks = block_outside cells o.blocks.items ∷ from_tag in
     let from_sides = sides_differ sides ∷ from_blocks in
@@ -86,7 +93,8 @@ is_clean e inside none =
     let alike = fold-none (sides_differ sides) from_blocks courant.second in
     let within = fold-none (block_outside cells o.blocks.items) from_tag alike.second in
     let counted = fold-none (tag_count b.max_level e.refining.tag.items) from_blocking within.second in
-    let fitting = fold-none (blocking_misfit cells o.blocking) [] counted.second in
+    let fitting = fold-none (blocking_misfit cells o.blocking) from_species counted.second in
+    let known = fold-none (species_outside o.species o.blocks.items) [] fitting.second in
     let same = alike_from_none b.x_low b.x_high b.y_low b.y_high alike.first in
     let both = fits_from_none b.nx b.ny o.blocking fitting.first in
     record {
@@ -98,4 +106,5 @@ is_clean e inside none =
       counted = counted.first;
       x_fits = both.x;
       y_fits = both.y;
+      known = known.first;
     }

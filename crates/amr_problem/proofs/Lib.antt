@@ -2,7 +2,9 @@ pub mod ValueLaws
 pub mod FirstSome
 pub mod RangeLaws
 pub mod Shapes
+pub mod SpeciesLaws
 pub mod ProblemLaws
+pub mod VersionLaws
 pub mod EntryLaws
 pub mod JudgementLaws
 pub mod PlainLaws

@@ -39,12 +39,13 @@ record Fields : Type 0 where
   blocking : ℕ
   max_grid_size : ℕ
   blocks : List Block
+  species : ℕ
 
 fields_of : Problem → Fields
-fields_of p = record { version = p.version; name = p.name; nx = p.nx; ny = p.ny; steps = p.steps; cx = p.cx; cy = p.cy; d = p.d; shear_x = p.shear_x; shear_y = p.shear_y; x_sides = p.x_sides; y_sides = p.y_sides; max_level = p.max_level; tag = p.tag; n_error_buf = p.n_error_buf; efficiency = p.efficiency; min_width = p.min_width; regrid_int = p.regrid_int; blocking = p.blocking; max_grid_size = p.max_grid_size; blocks = p.blocks }
+fields_of p = record { version = p.version; name = p.name; nx = p.nx; ny = p.ny; steps = p.steps; cx = p.cx; cy = p.cy; d = p.d; shear_x = p.shear_x; shear_y = p.shear_y; x_sides = p.x_sides; y_sides = p.y_sides; max_level = p.max_level; tag = p.tag; n_error_buf = p.n_error_buf; efficiency = p.efficiency; min_width = p.min_width; regrid_int = p.regrid_int; blocking = p.blocking; max_grid_size = p.max_grid_size; blocks = p.blocks; species = p.species }
 
 abbrev LimitsOf : Fields → Type 0
-LimitsOf f = Limits f.version f.name f.nx f.ny f.steps f.cx f.cy f.d f.shear_x f.shear_y f.x_sides f.y_sides f.max_level f.tag f.n_error_buf f.efficiency f.min_width f.regrid_int f.blocking f.max_grid_size f.blocks
+LimitsOf f = Limits f.version f.name f.nx f.ny f.steps f.cx f.cy f.d f.shear_x f.shear_y f.x_sides f.y_sides f.max_level f.tag f.n_error_buf f.efficiency f.min_width f.regrid_int f.blocking f.max_grid_size f.blocks f.species
 
 -- limits have one proof
 limits_once : (f : Fields) → (l k : LimitsOf f) → l ≡ k
@@ -73,6 +74,7 @@ made f l = record {
   blocking = f.blocking;
   max_grid_size = f.max_grid_size;
   blocks = f.blocks;
+  species = f.species;
   limits = l;
 }
 
@@ -102,8 +104,8 @@ same_front (Open l h) (Open m i) xs ys is =
     let high : h ≡ i = grind (arith, ints) in
     record { front = rw (low, high); others = grind arith }
 
-block : (x0 y0 x1 y1 mass : ℕ) → Block
-block x0 y0 x1 y1 mass = record { x0 = x0; y0 = y0; x1 = x1; y1 = y1; mass = mass }
+block : (x0 y0 x1 y1 mass species : ℕ) → Block
+block x0 y0 x1 y1 mass species = record { x0 = x0; y0 = y0; x1 = x1; y1 = y1; mass = mass; species = species }
 
 same_block : (b c : Block) → block_numbers b ≡ block_numbers c → b ≡ c
 unfolding block
@@ -113,7 +115,8 @@ same_block b c is =
     let x1 : b.x1 ≡ c.x1 = grind (arith, ints) in
     let y1 : b.y1 ≡ c.y1 = grind (arith, ints) in
     let mass : b.mass ≡ c.mass = grind (arith, ints) in
-    let same : block b.x0 b.y0 b.x1 b.y1 b.mass ≡ block c.x0 c.y0 c.x1 c.y1 c.mass = rw (x0, y0, x1, y1, mass) in
+    let species : b.species ≡ c.species = grind (arith, ints) in
+    let same : block b.x0 b.y0 b.x1 b.y1 b.mass b.species ≡ block c.x0 c.y0 c.x1 c.y1 c.mass c.species = rw (x0, y0, x1, y1, mass, species) in
     same
 
 same_blocks : (bs cs : List Block) → map block_numbers bs ≡ map block_numbers cs → bs ≡ cs
@@ -163,11 +166,12 @@ one_of_keys table p q h k =
     let min_width : p.min_width ≡ q.min_width = one_number _ _ _ h.min_width k.min_width in
     let regrid_int : p.regrid_int ≡ q.regrid_int = one_number _ _ _ h.regrid_int k.regrid_int in
     let max_grid_size : p.max_grid_size ≡ q.max_grid_size = one_number _ _ _ h.max_grid_size k.max_grid_size in
-    let blocks : p.blocks ≡ q.blocks = same_blocks _ _ (same_Some _ _ (sym h.blocks ∙ k.blocks)) in
+    let blocks : p.blocks ≡ q.blocks = same_blocks _ _ (same_Some _ _ (sym h.blocks ∙ (rw version k.blocks))) in
     let shear_x : p.shear_x ≡ q.shear_x = same_Some _ _ (sym h.shear_x ∙ (rw ny k.shear_x)) in
     let shear_y : p.shear_y ≡ q.shear_y = same_Some _ _ (sym h.shear_y ∙ (rw nx k.shear_y)) in
     let blocking : p.blocking ≡ q.blocking = one_number _ _ _ h.blocking k.blocking in
-    rw (version, name, nx, ny, steps, cx, cy, d, shear_x, shear_y, sides.front, y.front, max_level, tag, n_error_buf, efficiency, min_width, regrid_int, blocking, max_grid_size, blocks) refl
+    let species : p.species ≡ q.species = one_number _ _ _ h.species k.species in
+    rw (version, name, nx, ny, steps, cx, cy, d, shear_x, shear_y, sides.front, y.front, max_level, tag, n_error_buf, efficiency, min_width, regrid_int, blocking, max_grid_size, blocks, species) refl
 
 pub one_problem : (bytes : List ℕ) (p q : Problem) → IsProblemOf bytes p → IsProblemOf bytes q → p ≡ q
 one_problem bytes p q is_p is_q = same_fields p q (one_of_keys (table_of bytes) p q is_p.keys is_q.keys)

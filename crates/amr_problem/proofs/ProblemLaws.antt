@@ -1,21 +1,22 @@
 -- From entries without a fault to the limits of a problem.
-use Rattle.std.proofs.Common.{◌≡◌, ◌∙◌, sym, refl, ℕ, ◌+◌, ◌/◌, ◌%◌, ◌==◌, ◌≤◌, ◌^◌, true, false, ◌||◌, le-leb, eq-eqb, ℤ, pos, ◌≤ℤ◌, int_lt, unsigned_abs, inl, inr, List, [], ◌∷◌, map, length, None, is_none, arith}
+use Rattle.std.proofs.Common.{◌≡◌, ◌∙◌, sym, refl, ℕ, ◌+◌, ◌/◌, ◌%◌, ◌==◌, ◌≤◌, ◌^◌, true, false, not, ◌||◌, nat_le, le-leb, eq-eqb, ℤ, pos, negsuc, ◌≤ℤ◌, int_lt, unsigned_abs, inl, inr, List, [], ◌∷◌, map, length, find, None, is_none, arith}
 use Rattle.std.proofs.lemmas.Bool.{cases_Bool, and_parts, eqb-true}
 use Rattle.std.proofs.lemmas.Bool.Decides.{Decides-int_eq}
 use Rattle.std.proofs.lemmas.Int.{ints}
 use Rattle.std.proofs.lemmas.List.{length-map}
-use Rattle.std.specs.List.{list_all}
+use Rattle.std.specs.List.{list_all, enumerate_from}
 use Rattle.std.specs.Ordering.{int_eq}
+use Rattle.amr_box.proofs.Numbers.{le_from}
 use Rattle.amr_def.specs.declared.problem.Block.{Block}
 use Rattle.amr_def.specs.declared.problem.Sides.{Sides}
 use Rattle.amr_def.specs.declared.problem.Sides.TheVariants.{Periodic, Open}
-use Rattle.amr_def.specs.Limits.{Limits, is_block, has_inflows, greatest_size, in_use, is_shear, between, greatest_given, is_blocking}
+use Rattle.amr_def.specs.Limits.{Limits, is_block, has_inflows, greatest_size, in_use, is_shear, between, greatest_given, is_blocking, is_of_species_below, most_species}
 use Rattle.amr_problem.specs.declared.entries.Entries.{Entries}
 use Rattle.amr_problem.specs.declared.key.Key.TheVariants.{Blocks}
-use Rattle.amr_problem.specs.Keys.{ranges_of, range, coordinate, threshold, courant_number, blocking_factor, is_even, holds, first_outside}
+use Rattle.amr_problem.specs.Keys.{ranges_of, block_mass, block_species, coordinate, threshold, courant_number, blocking_factor, is_even, holds, first_outside}
 use Rattle.amr_problem.specs.Fields.{sides_numbers, block_numbers, AreValues}
-use Rattle.amr_problem.specs.Faults.{over_by, is_periodic, differ, sides_differ, is_inside, tag_count, fits, blocking_misfit}
-use Rattle.amr_problem.specs.Entries.{IsSide, is_for_each, HasShears, IsClean}
+use Rattle.amr_problem.specs.Faults.{over_by, is_periodic, differ, sides_differ, is_inside, tag_count, fits, blocking_misfit, species_of, species_outside}
+use Rattle.amr_problem.specs.Entries.{IsSide, is_for_each, FitsBasics, IsClean}
 use Rattle.amr_problem.proofs.FirstSome.{option_map-none}
 use Rattle.amr_problem.proofs.RangeLaws.{holds-IsIn, first_outside-none}
 use Rattle.amr_problem.proofs.EntryLaws.{size_within}
@@ -140,14 +141,42 @@ inflows_fit (Open l h) low high is in_low in_high =
     let high_in : h ≤ 2 ^ 30 = omega (arith, ints) in
     rw (le-leb l (2 ^ 30) low_in, le-leb h (2 ^ 30) high_in)
 
+-- an integer from 0 on
+pub whole : (z : ℤ) → pos 0 ≤ℤ z → z ≡ pos (unsigned_abs z)
+whole (pos n) h = refl
+whole (negsuc n) h = absurd (omega (arith, ints))
+
+-- the block of six integers
+abbrev pub block_as : (x0 y0 x1 y1 mass species : ℤ) → Block
+block_as x0 y0 x1 y1 mass species = record { x0 = unsigned_abs x0; y0 = unsigned_abs y0; x1 = unsigned_abs x1; y1 = unsigned_abs y1; mass = unsigned_abs mass; species = unsigned_abs species }
+
+pub block_as-numbers : (a b c d e f : ℤ) → first_outside (ranges_of Blocks) (a ∷ b ∷ c ∷ d ∷ e ∷ f ∷ []) ≡ None → a ∷ b ∷ c ∷ d ∷ e ∷ f ∷ [] ≡ block_numbers (block_as a b c d e f)
+block_as-numbers a b c d e f h =
+    let ends = block_mass ∷ block_species ∷ [] in
+    let x0 = first_outside-none coordinate (coordinate ∷ coordinate ∷ coordinate ∷ ends) a (b ∷ c ∷ d ∷ e ∷ f ∷ []) h in
+    let y0 = first_outside-none coordinate (coordinate ∷ coordinate ∷ ends) b (c ∷ d ∷ e ∷ f ∷ []) x0.others in
+    let x1 = first_outside-none coordinate (coordinate ∷ ends) c (d ∷ e ∷ f ∷ []) y0.others in
+    let y1 = first_outside-none coordinate ends d (e ∷ f ∷ []) x1.others in
+    let m = first_outside-none block_mass (block_species ∷ []) e (f ∷ []) y1.others in
+    let s = first_outside-none block_species [] f [] m.others in
+    let a_is : a ≡ pos (unsigned_abs a) = whole a x0.here.least in
+    let b_is : b ≡ pos (unsigned_abs b) = whole b y0.here.least in
+    let c_is : c ≡ pos (unsigned_abs c) = whole c x1.here.least in
+    let d_is : d ≡ pos (unsigned_abs d) = whole d y1.here.least in
+    let e_is : e ≡ pos (unsigned_abs e) = whole e m.here.least in
+    let f_is : f ≡ pos (unsigned_abs f) = whole f s.here.least in
+    cc
+
 -- the mass of a block in its range
 mass_fits : (b : Block) → first_outside (ranges_of Blocks) (block_numbers b) ≡ None → b.mass ≤ 2 ^ 30
 mass_fits b h =
-    let x0 = first_outside-none coordinate (coordinate ∷ coordinate ∷ coordinate ∷ range (pos 0) (pos 1073741824) ∷ []) (pos b.x0) (pos b.y0 ∷ pos b.x1 ∷ pos b.y1 ∷ pos b.mass ∷ []) h in
-    let y0 = first_outside-none coordinate (coordinate ∷ coordinate ∷ range (pos 0) (pos 1073741824) ∷ []) (pos b.y0) (pos b.x1 ∷ pos b.y1 ∷ pos b.mass ∷ []) x0.others in
-    let x1 = first_outside-none coordinate (coordinate ∷ range (pos 0) (pos 1073741824) ∷ []) (pos b.x1) (pos b.y1 ∷ pos b.mass ∷ []) y0.others in
-    let y1 = first_outside-none coordinate (range (pos 0) (pos 1073741824) ∷ []) (pos b.y1) (pos b.mass ∷ []) x1.others in
-    let mass = first_outside-none (range (pos 0) (pos 1073741824)) [] (pos b.mass) [] y1.others in
+    let ends = block_mass ∷ block_species ∷ [] in
+    let are = pos b.mass ∷ pos b.species ∷ [] in
+    let x0 = first_outside-none coordinate (coordinate ∷ coordinate ∷ coordinate ∷ ends) (pos b.x0) (pos b.y0 ∷ pos b.x1 ∷ pos b.y1 ∷ are) h in
+    let y0 = first_outside-none coordinate (coordinate ∷ coordinate ∷ ends) (pos b.y0) (pos b.x1 ∷ pos b.y1 ∷ are) x0.others in
+    let x1 = first_outside-none coordinate (coordinate ∷ ends) (pos b.x1) (pos b.y1 ∷ are) y0.others in
+    let y1 = first_outside-none coordinate ends (pos b.y1) are x1.others in
+    let mass = first_outside-none block_mass (block_species ∷ []) (pos b.mass) (pos b.species ∷ []) y1.others in
     let fits : pos b.mass ≤ℤ pos 1073741824 = mass.here.greatest in
     omega (arith, ints)
 
@@ -161,11 +190,27 @@ blocks_inside nx ny (b ∷ bs) inside in_range =
     let (here', others') = and_parts (is_none (first_outside (ranges_of Blocks) (block_numbers b))) (list_all (λ row. is_none (first_outside (ranges_of Blocks) row)) (map block_numbers bs)) in_range in
     rw (one_block nx ny b here (none_from_test _ here'), blocks_inside nx ny bs others others')
 
-pub has_limits : (e : Entries) {version : ℕ} {name : List ℕ} {nx ny steps : ℕ} {cx cy : ℤ} {d : ℕ} {shear_x shear_y : List ℤ} {x_sides y_sides : Sides} {max_level : ℕ} {tag : List ℕ} {n_error_buf efficiency min_width regrid_int blocking max_grid_size : ℕ} {blocks : List Block}
-    → IsClean e → HasShears e.basics.nx e.basics.ny e.overlay
-    → AreValues e version name nx ny steps cx cy d shear_x shear_y x_sides y_sides max_level tag n_error_buf efficiency min_width regrid_int blocking max_grid_size blocks
-    → Limits version name nx ny steps cx cy d shear_x shear_y x_sides y_sides max_level tag n_error_buf efficiency min_width regrid_int blocking max_grid_size blocks
-has_limits e {version} {name} {nx} {ny} {steps} {cx} {cy} {d} {shear_x} {shear_y} {x_sides} {y_sides} {max_level} {tag} {n_error_buf} {efficiency} {min_width} {regrid_int} {blocking} {max_grid_size} {blocks} clean shears v =
+-- the species of blocks are below their number
+species_known : (many k : ℕ) (bs : List Block) → find (λ e. not (int_lt e.1 (pos many))) (enumerate_from k (map species_of (map block_numbers bs))) ≡ None → list_all (is_of_species_below many) bs ≡ true
+species_known many k [] h = refl
+species_known many k (b ∷ bs) h =
+    elim (cases_Bool (int_lt (pos b.species) (pos many))) [
+      | inl below ↦ rw (below, species_known many (k + 1) bs (rw below at h))
+      | inr above ↦ absurd (let e = rw above at h in cc)
+    ]
+
+few_species : (version species : ℕ) → (pos version ≤ℤ pos 2 → pos species ≡ pos 1) → pos species ≤ℤ pos 4 → species ≤ most_species version
+few_species version species alone most =
+    elim (cases_Bool (nat_le version 2)) [
+      | inl early ↦ let one : pos species ≡ pos 1 = alone (le_from (pos version) (pos 2) early) in rw early (omega (arith, ints))
+      | inr late ↦ rw late (omega (arith, ints))
+    ]
+
+pub has_limits : (e : Entries) {version : ℕ} {name : List ℕ} {nx ny steps : ℕ} {cx cy : ℤ} {d : ℕ} {shear_x shear_y : List ℤ} {x_sides y_sides : Sides} {max_level : ℕ} {tag : List ℕ} {n_error_buf efficiency min_width regrid_int blocking max_grid_size : ℕ} {blocks : List Block} {species : ℕ}
+    → IsClean e → FitsBasics e.basics e.overlay
+    → AreValues e version name nx ny steps cx cy d shear_x shear_y x_sides y_sides max_level tag n_error_buf efficiency min_width regrid_int blocking max_grid_size blocks species
+    → Limits version name nx ny steps cx cy d shear_x shear_y x_sides y_sides max_level tag n_error_buf efficiency min_width regrid_int blocking max_grid_size blocks species
+has_limits e {version} {name} {nx} {ny} {steps} {cx} {cy} {d} {shear_x} {shear_y} {x_sides} {y_sides} {max_level} {tag} {n_error_buf} {efficiency} {min_width} {regrid_int} {blocking} {max_grid_size} {blocks} {species} clean fit v =
     let b = clean.in_range.basics in
     let r = clean.in_range.refining in
     let o = clean.in_range.overlay in
@@ -175,7 +220,7 @@ has_limits e {version} {name} {nx} {ny} {steps} {cx} {cy} {d} {shear_x} {shear_y
     let over : over_by (greatest_size (in_use cx shear_x) + greatest_size (in_use cy shear_y)) (pos d) ≡ None = rw (v.cx_is, v.cy_is, v.d_is, v.shear_x_is, v.shear_y_is) at clean.stable in
     let stable : pos (greatest_size (in_use cx shear_x) + greatest_size (in_use cy shear_y)) ≤ℤ pos d = stable-from_none _ (pos d) over in
     let least_version : pos 1 ≤ℤ pos version = rw v.version_is at b.least_version in
-    let greatest : pos version ≤ℤ pos 2 = rw v.version_is at b.greatest_version in
+    let greatest : pos version ≤ℤ pos 3 = rw v.version_is at b.greatest_version in
     let least_nx : pos 2 ≤ℤ pos nx = rw v.nx_is at b.least_nx in
     let greatest_nx : pos nx ≤ℤ pos 256 = rw v.nx_is at b.greatest_nx in
     let least_ny : pos 2 ≤ℤ pos ny = rw v.ny_is at b.least_ny in
@@ -197,6 +242,9 @@ has_limits e {version} {name} {nx} {ny} {steps} {cx} {cy} {d} {shear_x} {shear_y
     let many : length (map block_numbers blocks) ≤ 256 = rw v.blocks_are at o.block_count in
     let factor : holds blocking_factor (pos blocking) ≡ true = rw v.blocking_is at o.blocking in
     let x_fits : fits (pos blocking) (pos nx) ≡ true = rw (v.blocking_is, v.nx_is) at clean.x_fits in
+    let least_species : pos 1 ≤ℤ pos species = rw v.species_is at o.least_species in
+    let greatest_species : pos species ≤ℤ pos 4 = rw v.species_is at o.greatest_species in
+    let known : species_outside (pos species) (map block_numbers blocks) ≡ None = rw (v.species_is, v.blocks_are) at clean.known in
     let y_fits : fits (pos blocking) (pos ny) ≡ true = rw (v.blocking_is, v.ny_is) at clean.y_fits in
     record {
       first_version = omega (arith, ints);
@@ -213,8 +261,8 @@ has_limits e {version} {name} {nx} {ny} {steps} {cx} {cy} {d} {shear_x} {shear_y
       greatest_cy = rw v.cy_is at b.size_cy;
       least_d = omega (arith, ints);
       greatest_d = omega (arith, ints);
-      rows_shear = shear_fits ny shear_x (rw (v.ny_is, v.shear_x_is) at shears.rows) (rw v.shear_x_is at o.shear_x);
-      columns_shear = shear_fits nx shear_y (rw (v.nx_is, v.shear_y_is) at shears.columns) (rw v.shear_y_is at o.shear_y);
+      rows_shear = shear_fits ny shear_x (rw (v.ny_is, v.shear_x_is) at fit.rows) (rw v.shear_x_is at o.shear_x);
+      columns_shear = shear_fits nx shear_y (rw (v.nx_is, v.shear_y_is) at fit.columns) (rw v.shear_y_is at o.shear_y);
       stable = omega (arith, ints);
       x_inflows = inflows_fit x_sides e.basics.x_low e.basics.x_high v.x_sides_are b.x_low b.x_high;
       y_inflows = inflows_fit y_sides e.basics.y_low e.basics.y_high v.y_sides_are b.y_low b.y_high;
@@ -236,4 +284,7 @@ has_limits e {version} {name} {nx} {ny} {steps} {cx} {cy} {d} {shear_x} {shear_y
       even_max_grid_size = eqb-true (max_grid_size % 2) 0 even;
       block_count = omega (arith, length-map blocks block_numbers);
       blocks_inside = blocks_inside nx ny blocks inside' in_range';
+      some_species = omega (arith, ints);
+      few_species = few_species version species (rw (v.version_is, v.species_is) at fit.alone) greatest_species;
+      blocks_species = species_known species 0 blocks (option_map-none _ _ known);
     }

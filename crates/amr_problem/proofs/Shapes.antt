@@ -16,10 +16,20 @@ five (a ∷ b ∷ c ∷ d ∷ []) h = absurd (omega arith)
 five (a ∷ b ∷ c ∷ d ∷ e ∷ []) h = refl
 five (a ∷ b ∷ c ∷ d ∷ e ∷ f ∷ rest) h = absurd (omega arith)
 
+pub six : (zs : List ℤ) → length zs ≡ 6 → zs ≡ get_or zs 0 (pos 0) ∷ get_or zs 1 (pos 0) ∷ get_or zs 2 (pos 0) ∷ get_or zs 3 (pos 0) ∷ get_or zs 4 (pos 0) ∷ get_or zs 5 (pos 0) ∷ []
+six [] h = absurd (omega arith)
+six (a ∷ []) h = absurd (omega arith)
+six (a ∷ b ∷ []) h = absurd (omega arith)
+six (a ∷ b ∷ c ∷ []) h = absurd (omega arith)
+six (a ∷ b ∷ c ∷ d ∷ []) h = absurd (omega arith)
+six (a ∷ b ∷ c ∷ d ∷ e ∷ []) h = absurd (omega arith)
+six (a ∷ b ∷ c ∷ d ∷ e ∷ f ∷ []) h = refl
+six (a ∷ b ∷ c ∷ d ∷ e ∷ f ∷ g ∷ rest) h = absurd (omega arith)
+
 -- a block lies inside where it does along each axis
-pub inside_by_axis : (nx ny : ℤ) (block : List ℤ) → length block ≡ 5
+pub inside_by_axis : (nx ny : ℤ) (block : List ℤ) → length block ≡ 6
     → is_inside (nx ∷ ny ∷ []) block ≡ ((int_le (get_or block 0 (pos 0)) (get_or block 2 (pos 0)) && int_lt (get_or block 2 (pos 0)) nx) && (int_le (get_or block 1 (pos 0)) (get_or block 3 (pos 0)) && int_lt (get_or block 3 (pos 0)) ny))
-inside_by_axis nx ny block h = ap (is_inside (nx ∷ ny ∷ [])) (five block h) ∙ joined (int_le (get_or block 0 (pos 0)) (get_or block 2 (pos 0))) (int_lt (get_or block 2 (pos 0)) nx) (int_le (get_or block 1 (pos 0)) (get_or block 3 (pos 0))) (int_lt (get_or block 3 (pos 0)) ny)
+inside_by_axis nx ny block h = ap (is_inside (nx ∷ ny ∷ [])) (six block h) ∙ joined (int_le (get_or block 0 (pos 0)) (get_or block 2 (pos 0))) (int_lt (get_or block 2 (pos 0)) nx) (int_le (get_or block 1 (pos 0)) (get_or block 3 (pos 0))) (int_lt (get_or block 3 (pos 0)) ny)
   where
     joined : (p q r s : Bool) → (p && q && r && s) ≡ ((p && q) && (r && s))
     joined true true true s = refl

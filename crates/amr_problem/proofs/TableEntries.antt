@@ -1,9 +1,10 @@
 -- The entries of a table whose keys have no fault.
 use denote.RawPtr.{null_ptr}
-use Rattle.std.proofs.Common.{◌≡◌, ◌∙◌, sym, ap, refl, ℕ, ◌<◌, ◌≤◌, ◌^◌, ◌==◌, true, ℤ, pos, ◌≤ℤ◌, inl, inr, List, [], ◌∷◌, ◌++◌, map, length, take, drop, get_or, Option, None, Some, is_some, arith}
+use Rattle.std.proofs.Common.{◌≡◌, ◌∙◌, sym, ap, refl, ℕ, ◌<◌, ◌≤◌, ◌^◌, ◌==◌, nat_lt, true, ℤ, pos, ◌≤ℤ◌, inl, inr, List, [], ◌∷◌, ◌++◌, map, length, take, drop, get_or, length-append, Option, None, Some, is_some, option_map, arith}
 use Rattle.std.proofs.lemmas.Bool.{cases_Bool, eqb-true, true≢false}
 use Rattle.std.proofs.lemmas.Bool.Decides.{Decides-int_eq}
 use Rattle.std.proofs.lemmas.Int.{ints}
+use Rattle.std.proofs.lemmas.Option.{same_Some}
 use Rattle.std.specs.Global.{Vec}
 use Rattle.std.specs.Ordering.{int_eq}
 use Rattle.toml.specs.Data.{Data, Items, Members, as_array}
@@ -13,11 +14,11 @@ use Rattle.amr_problem.specs.declared.entries.Overlay.{Overlay}
 use Rattle.amr_problem.specs.declared.entries.Refining.{Refining}
 use Rattle.amr_problem.specs.declared.fault.ProblemFault.TheVariants.{OutOfRange}
 use Rattle.amr_problem.specs.declared.key.Key.{Key}
-use Rattle.amr_problem.specs.declared.key.Key.TheVariants.{Version, Name, Cells, Steps, Courant, Sides, MaxLevel, Tag, NErrorBuf, Efficiency, MinWidth, RegridInt, MaxGridSize, Blocks, ShearX, ShearY, Blocking}
+use Rattle.amr_problem.specs.declared.key.Key.TheVariants.{Version, Name, Cells, Steps, Courant, Sides, MaxLevel, Tag, NErrorBuf, Efficiency, MinWidth, RegridInt, MaxGridSize, Blocks, ShearX, ShearY, Blocking, Species}
 use Rattle.amr_problem.specs.Entries.{AreBasicsOf, AreRefiningOf, IsOverlayOf, IsReadOf, is_for_each}
-use Rattle.amr_problem.specs.Faults.{first_some, wrong_kind, out_of_range, tag_count, first_wrong, is_read, key_outside}
+use Rattle.amr_problem.specs.Faults.{first_some, wrong_kind, out_of_range, tag_count, first_wrong, is_read, key_outside, version_in}
 use Rattle.amr_problem.specs.Keys.{keys, kind_of, range, cell_count}
-use Rattle.amr_problem.specs.Values.{◌>>=◌, count, integers_at, number_at, numbers_at, numbers_in, numbers_of, rows_at, shear_at, text_at, value_at}
+use Rattle.amr_problem.specs.Values.{◌>>=◌, count, integers_at, number_at, numbers_at, numbers_in, numbers_of, block_of, rows_at, shear_at, text_at, value_at}
 use Rattle.amr_problem.proofs.EntryLaws.{name_from_none, rows_from_none}
 use Rattle.amr_problem.proofs.FirstSome.{fold-none, option_map-none}
 use Rattle.amr_problem.proofs.RangeLaws.{first_outside-none}
@@ -69,6 +70,17 @@ length-numbers_of many (Some d) zs h = length-numbers_in many (as_array d) zs h
 length-numbers_at : (many : ℕ) (table : Members) (key : Key) (zs : List ℤ) → numbers_at many table key ≡ Some zs → length zs ≡ many
 unfolding numbers_at
 length-numbers_at many table key zs h = length-numbers_of many (value_at table key) zs h
+
+pub length-block_of : (version : ℕ) (d : Data) (zs : List ℤ) → block_of version d ≡ Some zs → length zs ≡ 6
+length-block_of version d zs h =
+    elim (cases_Bool (nat_lt version 3)) [
+      | inl early ↦ one_more (numbers_of 5 d) (λ ys is. length-numbers_in 5 (as_array d) ys is) (rw early at h)
+      | inr late ↦ length-numbers_in 6 (as_array d) zs (rw late at h)
+    ]
+  where
+    one_more : (o : Option (List ℤ)) → ((ys : List ℤ) → o ≡ Some ys → length ys ≡ 5) → option_map (λ ys. ys ++ pos 0 ∷ []) o ≡ Some zs → length zs ≡ 6
+    one_more None five h = absurd (cc)
+    one_more (Some ys) five h = let same = same_Some (ys ++ pos 0 ∷ []) zs h in ap length (sym same) ∙ omega (arith, length-append ys (pos 0 ∷ []), five ys refl)
 
 two : (zs : List ℤ) → length zs ≡ 2 → zs ≡ get_or zs 0 (pos 0) ∷ get_or zs 1 (pos 0) ∷ []
 two [] h = absurd (omega arith)
@@ -196,10 +208,11 @@ short_shear many zs top each =
 
 overlay_of : (table : Members) (nx ny : ℤ) → numbers_at 2 table Cells ≡ Some (nx ∷ ny ∷ []) → IsFit table → (o : Overlay) × IsOverlayOf nx ny table o
 overlay_of table nx ny cells fit =
-    let blocks = found (rows_at 5 table Blocks) (read_of table (take 13 keys) Blocks (drop 14 keys) fit.kinds) in
+    let blocks = found (rows_at (version_in table) table Blocks) (read_of table (take 13 keys) Blocks (drop 14 keys) fit.kinds) in
     let shear_x = found (shear_at ny table ShearX) (rw cells at (read_of table (take 14 keys) ShearX (drop 15 keys) fit.kinds)) in
     let shear_y = found (shear_at nx table ShearY) (rw cells at (read_of table (take 15 keys) ShearY (drop 16 keys) fit.kinds)) in
     let blocking = found (number_at table Blocking) (read_of table (take 16 keys) Blocking (drop 17 keys) fit.kinds) in
+    let species = found (number_at table Species) (read_of table (take 17 keys) Species (drop 18 keys) fit.kinds) in
     let cells_outside : key_outside table Cells ≡ None = none_of (key_outside table) (take 2 keys) Cells (drop 3 keys) fit.ranges in
     let columns = first_outside-none cell_count (cell_count ∷ []) nx (ny ∷ []) (option_map-none (OutOfRange Cells) _ (rw cells at cells_outside)) in
     let rows = first_outside-none cell_count [] ny [] columns.others in
@@ -210,8 +223,9 @@ overlay_of table nx ny cells fit =
       shear_x = vec_of shear_x.value (short_shear ny shear_x.value rows.here.greatest (shear_at-for_each ny table ShearX shear_x.value shear_x.is));
       shear_y = vec_of shear_y.value (short_shear nx shear_y.value columns.here.greatest (shear_at-for_each nx table ShearY shear_y.value shear_y.is));
       blocking = blocking.value;
+      species = species.value;
     } in
-    (o, record { blocks = blocks.is; shear_x = shear_x.is; shear_y = shear_y.is; blocking = blocking.is })
+    (o, record { blocks = blocks.is; shear_x = shear_x.is; shear_y = shear_y.is; blocking = blocking.is; species = species.is })
 
 pub entries_of : (table : Members) → IsFit table → (e : Entries) × IsReadOf table e
 entries_of table fit =

@@ -9,7 +9,7 @@ use Rattle.toml.specs.View.{view, items_view}
 use Rattle.toml.specs.declared.value.Value.{Value}
 use Rattle.toml.proofs.Views.{items_view-drop}
 use Rattle.amr_problem.specs.declared.key.Key.{Key}
-use Rattle.amr_problem.specs.Values.{◌>>=◌, count, integers, numbers_in, numbers_of, rows_in, shear_in, shear_written, shear_at, written_at}
+use Rattle.amr_problem.specs.Values.{◌>>=◌, count, integers, numbers_in, block_of, rows_in, shear_in, shear_written, shear_at, written_at}
 use Rattle.amr_problem.specs.Entries.{is_for_each}
 
 pub count_view : (vs : List Value) → count (items_view vs) ≡ length vs
@@ -68,20 +68,20 @@ pub all_pushed : {A : Type 0} (found : List A) (all rest : Option (List A)) → 
 all_pushed found all rest h end = h ∙ ap (option_map (λ xs. found ++ xs)) end ∙ ap Some (append-nil found)
 
 -- the rows from a place on, where a row stands at it
-pub rows-at : (n : ℕ) (vs : List Value) (i : ℕ) (d : Value) (zs : List ℤ) → i < length vs → numbers_of n (view (get_or vs i d)) ≡ Some zs
-    → rows_in n (items_view (drop i vs)) ≡ option_map (λ rows. zs ∷ rows) (rows_in n (items_view (drop (i + 1) vs)))
-rows-at n vs i d zs h is = rw (items_view-drop vs i d h, is)
+pub rows-at : (version : ℕ) (vs : List Value) (i : ℕ) (d : Value) (zs : List ℤ) → i < length vs → block_of version (view (get_or vs i d)) ≡ Some zs
+    → rows_in version (items_view (drop i vs)) ≡ option_map (λ rows. zs ∷ rows) (rows_in version (items_view (drop (i + 1) vs)))
+rows-at version vs i d zs h is = rw (items_view-drop vs i d h, is)
 
-pub rows-none : (n : ℕ) (vs : List Value) (i : ℕ) (d : Value) → i < length vs → numbers_of n (view (get_or vs i d)) ≡ None
-    → rows_in n (items_view (drop i vs)) ≡ None
-rows-none n vs i d h is = rw (items_view-drop vs i d h, is)
+pub rows-none : (version : ℕ) (vs : List Value) (i : ℕ) (d : Value) → i < length vs → block_of version (view (get_or vs i d)) ≡ None
+    → rows_in version (items_view (drop i vs)) ≡ None
+rows-none version vs i d h is = rw (items_view-drop vs i d h, is)
 
 -- past the end
 pub integers-end : (vs : List Value) (i : ℕ) → length vs ≤ i → integers (items_view (drop i vs)) ≡ Some []
 integers-end vs i past = let over : drop i vs ≡ [] = drop_all i vs past in rw over
 
-pub rows-end : (n : ℕ) (vs : List Value) (i : ℕ) → length vs ≤ i → rows_in n (items_view (drop i vs)) ≡ Some []
-rows-end n vs i past = let over : drop i vs ≡ [] = drop_all i vs past in rw over
+pub rows-end : (version : ℕ) (vs : List Value) (i : ℕ) → length vs ≤ i → rows_in version (items_view (drop i vs)) ≡ Some []
+rows-end version vs i past = let over : drop i vs ≡ [] = drop_all i vs past in rw over
 
 -- so many items
 pub numbers_in_whole : (many : ℕ) (vs : List Value) → length vs ≡ many → numbers_in many (items_view vs) ≡ integers (items_view vs)

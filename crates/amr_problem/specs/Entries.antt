@@ -14,10 +14,10 @@ use Rattle.amr_problem.specs.declared.fault.ProblemFault.{ProblemFault}
 use Rattle.amr_problem.specs.declared.fault.ProblemFault.TheVariants.{OutOfRange}
 use Rattle.amr_problem.specs.declared.key.Key.{Key}
 use Rattle.amr_problem.specs.declared.key.Key.TheVariants.{Version, Name, Cells, Steps, Courant, Sides, MaxLevel, Tag, NErrorBuf, Efficiency}
-use Rattle.amr_problem.specs.declared.key.Key.TheVariants.{MinWidth, RegridInt, MaxGridSize, Blocks, ShearX, ShearY, Blocking}
+use Rattle.amr_problem.specs.declared.key.Key.TheVariants.{MinWidth, RegridInt, MaxGridSize, Blocks, ShearX, ShearY, Blocking, Species}
 use Rattle.amr_problem.specs.Keys.{range, ranges_of, first_outside, first_beyond, is_even, holds, threshold, courant_number, blocking_factor}
-use Rattle.amr_problem.specs.Faults.{courant_over, is_periodic, sides_differ, block_outside, tag_count}
-use Rattle.amr_problem.specs.Faults.{blocking_misfit, fits, first_some, text_outside, rows_outside}
+use Rattle.amr_problem.specs.Faults.{courant_over, is_periodic, sides_differ, block_outside, tag_count, blocking_misfit, fits}
+use Rattle.amr_problem.specs.Faults.{species_outside, first_some, text_outside, rows_outside, version_in}
 use Rattle.amr_problem.specs.Values.{number_at, text_at, numbers_at, integers_at, shear_at, rows_at}
 
 -- ---- the entries are those of the table
@@ -46,14 +46,15 @@ pub record AreRefiningOf (table : Members) (r : Refining) : Type 0 where
   pub max_grid_size : number_at table MaxGridSize ≡ Some r.max_grid_size
 
 abbrev pub overlay_keys : List Key
-overlay_keys = Blocks ∷ ShearX ∷ ShearY ∷ Blocking ∷ []
+overlay_keys = Blocks ∷ ShearX ∷ ShearY ∷ Blocking ∷ Species ∷ []
 
 -- over a level 0 of nx by ny cells
 pub record IsOverlayOf (nx ny : ℤ) (table : Members) (o : Overlay) : Type 0 where
-  pub blocks : rows_at 5 table Blocks ≡ Some o.blocks.items
+  pub blocks : rows_at (version_in table) table Blocks ≡ Some o.blocks.items
   pub shear_x : shear_at ny table ShearX ≡ Some o.shear_x.items
   pub shear_y : shear_at nx table ShearY ≡ Some o.shear_y.items
   pub blocking : number_at table Blocking ≡ Some o.blocking
+  pub species : number_at table Species ≡ Some o.species
 
 pub record IsReadOf (table : Members) (e : Entries) : Type 0 where
   pub basics : AreBasicsOf table e.basics
@@ -93,6 +94,7 @@ overlay_outside o = first_some
     ∷ option_map (OutOfRange ShearX) (first_beyond courant_number o.shear_x.items)
     ∷ option_map (OutOfRange ShearY) (first_beyond courant_number o.shear_y.items)
     ∷ numbers_outside Blocking (o.blocking ∷ [])
+    ∷ numbers_outside Species (o.species ∷ [])
     ∷ [])
 
 abbrev pub range_fault : Entries → Option ProblemFault
@@ -107,6 +109,7 @@ in_range_fault e = first_some
     ∷ block_outside (e.basics.nx ∷ e.basics.ny ∷ []) e.overlay.blocks.items
     ∷ tag_count e.basics.max_level e.refining.tag.items
     ∷ blocking_misfit (e.basics.nx ∷ e.basics.ny ∷ []) e.overlay.blocking
+    ∷ species_outside e.overlay.species e.overlay.blocks.items
     ∷ [])
 
 -- the first fault from the ranges on
@@ -122,7 +125,7 @@ pub record IsSide (side : ℤ) : Type 0 where
 
 pub record AreBasicsInRange (b : Basics) : Type 0 where
   pub least_version : pos 1 ≤ℤ b.version
-  pub greatest_version : b.version ≤ℤ pos 2
+  pub greatest_version : b.version ≤ℤ pos 3
   pub named : 1 ≤ length b.name.items
   pub short_name : length b.name.items ≤ 32
   pub name_bytes : list_all is_name_byte b.name.items ≡ true
@@ -163,6 +166,8 @@ pub record IsOverlayInRange (o : Overlay) : Type 0 where
   pub shear_x : list_all (holds courant_number) o.shear_x.items ≡ true
   pub shear_y : list_all (holds courant_number) o.shear_y.items ≡ true
   pub blocking : holds blocking_factor o.blocking ≡ true
+  pub least_species : pos 1 ≤ℤ o.species
+  pub greatest_species : o.species ≤ℤ pos 4
 
 pub record IsInRange (e : Entries) : Type 0 where
   pub basics : AreBasicsInRange e.basics
@@ -175,9 +180,11 @@ pub record IsInRange (e : Entries) : Type 0 where
 abbrev pub is_for_each : ℤ → List ℤ → Bool
 is_for_each many zs = (length zs == 0) || int_eq (pos (length zs)) many
 
-pub record HasShears (nx ny : ℤ) (o : Overlay) : Type 0 where
-  pub rows : is_for_each ny o.shear_x.items ≡ true
-  pub columns : is_for_each nx o.shear_y.items ≡ true
+-- by the cells and the version: a shear's number for each row or column, and one species before version 3
+pub record FitsBasics (b : Basics) (o : Overlay) : Type 0 where
+  pub rows : is_for_each b.ny o.shear_x.items ≡ true
+  pub columns : is_for_each b.nx o.shear_y.items ≡ true
+  pub alone : b.version ≤ℤ pos 2 → o.species ≡ pos 1
 
 -- the entries have no fault from their ranges on
 pub record IsClean (e : Entries) : Type 0 where
@@ -189,3 +196,4 @@ pub record IsClean (e : Entries) : Type 0 where
   pub counted : tag_count e.basics.max_level e.refining.tag.items ≡ None
   pub x_fits : fits e.overlay.blocking e.basics.nx ≡ true
   pub y_fits : fits e.overlay.blocking e.basics.ny ≡ true
+  pub known : species_outside e.overlay.species e.overlay.blocks.items ≡ None

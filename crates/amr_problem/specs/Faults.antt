@@ -1,22 +1,22 @@
 -- The faults of a problem, in the order in which they are looked for. (profile)
 use Rattle.std.specs.Prelude.{ℕ, ◌+◌, ◌/◌, ◌%◌, ◌==◌, ℤ, pos, Bool, ◌&&◌, not, nat_lt, int_le, int_lt, unsigned_abs, List, [], ◌∷◌, length, map}
-use Rattle.std.specs.Prelude.{find, fold, true, false, position, Option, Some, None, option_map, is_some, if◌then◌else◌}
+use Rattle.std.specs.Prelude.{find, fold, true, position, slice_index_or, Option, Some, None, option_map, is_some, if◌then◌else◌}
 use Rattle.std.specs.Ordering.{int_eq}
-use Rattle.std.specs.List.{list_all}
-use Rattle.std.specs.Option.{option_or}
+use Rattle.std.specs.List.{list_all, enumerate_from}
+use Rattle.std.specs.Option.{option_or, option_map_or}
 use Rattle.amr_box.specs.declared.Axis.{Axis}
 use Rattle.amr_box.specs.declared.Axis.TheVariants.{X, Y}
 use Rattle.amr_def.specs.Limits.{is_name_byte, in_use, greatest_size}
 use Rattle.toml.specs.Data.{Members, no_members, member}
 use Rattle.amr_problem.specs.declared.fault.ProblemFault.{ProblemFault}
 use Rattle.amr_problem.specs.declared.fault.ProblemFault.TheVariants.{TooLong, NotToml, UnknownKey, Missing, WrongKind}
-use Rattle.amr_problem.specs.declared.fault.ProblemFault.TheVariants.{OutOfRange, SidesDiffer, BlockOutside, TagCount}
+use Rattle.amr_problem.specs.declared.fault.ProblemFault.TheVariants.{OutOfRange, SidesDiffer, BlockOutside, TagCount, SpeciesOutside}
 use Rattle.amr_problem.specs.declared.fault.ProblemFault.TheVariants as fault
 use Rattle.amr_problem.specs.declared.key.Key.{Key}
-use Rattle.amr_problem.specs.declared.key.Key.TheVariants.{Version, Cells, Courant, Sides, MaxLevel, Tag, Blocks, ShearX, ShearY, Blocking}
+use Rattle.amr_problem.specs.declared.key.Key.TheVariants.{Version, Cells, Courant, Sides, MaxLevel, Tag, Blocks, ShearX, ShearY, Blocking, Species}
 use Rattle.amr_problem.specs.declared.range.Range.{Range}
 use Rattle.amr_problem.specs.Document.{document, table_of}
-use Rattle.amr_problem.specs.Keys.{Kind, number, text, numbers, list, shear, rows, kind_of, keys, is_known, holds, first_outside, first_beyond}
+use Rattle.amr_problem.specs.Keys.{Kind, number, text, numbers, list, shear, rows, kind_of, keys, is_known, versions, holds, first_outside, first_beyond}
 use Rattle.amr_problem.specs.Values.{◌>>=◌, is_there, number_at, text_at, numbers_at, integers_at, shear_at, rows_at}
 
 -- the first that is some
@@ -40,13 +40,13 @@ abbrev pub keys_in : Members → List (List ℕ)
 keys_in no_members = []
 keys_in (member key value rest) = key ∷ keys_in rest
 
-abbrev pub is_two : Option ℤ → Bool
-is_two (Some z) = int_eq z (pos 2)
-is_two None = false
+-- the version of a problem that says this number: 1 where there is no such version
+abbrev pub known_version : ℤ → ℕ
+known_version z = if holds versions z then unsigned_abs z else 1
 
--- the version whose keys are known: 2 where a problem says so, else 1
+-- the version whose keys are known and whose blocks are read: 1 where a problem says no number
 abbrev pub version_in : Members → ℕ
-version_in table = if is_two (number_at table Version) then 2 else 1
+version_in table = option_map_or known_version (number_at table Version) 1
 
 -- 3: a key is none of the version's. The members stand in the order of their bytes, so this is the least such key.
 abbrev pub unknown_key : Members → Option ProblemFault
@@ -71,7 +71,7 @@ is_read table key (text r) = is_some (text_at table key)
 is_read table key (numbers rs) = is_some (numbers_at (length rs) table key)
 is_read table key (list r) = is_some (integers_at table key)
 is_read table key (shear axis r) = is_some (shear_along axis table key)
-is_read table key (rows most rs) = is_some (rows_at (length rs) table key)
+is_read table key (rows most rs) = is_some (rows_at (version_in table) table key)
 
 -- 5: a value is of another kind
 abbrev pub first_wrong : Members → List Key → Option ProblemFault
@@ -94,7 +94,7 @@ outside table key (text r) = text_at table key >>= text_outside r
 outside table key (numbers rs) = numbers_at (length rs) table key >>= first_outside rs
 outside table key (list r) = integers_at table key >>= first_beyond r
 outside table key (shear axis r) = shear_along axis table key >>= first_beyond r
-outside table key (rows most rs) = rows_at (length rs) table key >>= rows_outside most rs
+outside table key (rows most rs) = rows_at (version_in table) table key >>= rows_outside most rs
 
 abbrev pub key_outside : Members → Key → Option ProblemFault
 key_outside table key = option_map (OutOfRange key) (outside table key (kind_of key))
@@ -129,7 +129,7 @@ sides_differ _ = None
 
 -- 9: a block has its corners out of order, or lies outside of the cells
 abbrev pub is_inside : List ℤ → List ℤ → Bool
-is_inside (nx ∷ ny ∷ []) (x0 ∷ y0 ∷ x1 ∷ y1 ∷ mass ∷ []) = int_le x0 x1 && int_lt x1 nx && int_le y0 y1 && int_lt y1 ny
+is_inside (nx ∷ ny ∷ []) (x0 ∷ y0 ∷ x1 ∷ y1 ∷ others) = int_le x0 x1 && int_lt x1 nx && int_le y0 y1 && int_lt y1 ny
 is_inside _ _ = true
 
 abbrev pub block_outside : List ℤ → List (List ℤ) → Option ProblemFault
@@ -149,6 +149,14 @@ blocking_misfit (nx ∷ ny ∷ []) b =
     if fits b nx then (if fits b ny then None else Some (fault.Blocking Y b)) else Some (fault.Blocking X b)
 blocking_misfit _ b = None
 
+abbrev pub species_of : List ℤ → ℤ
+species_of block = slice_index_or block 5 (pos 0)
+
+-- 12: the species of a block, from 0 on, is none of so many
+abbrev pub species_outside : ℤ → List (List ℤ) → Option ProblemFault
+species_outside many blocks =
+    option_map (λ e. SpeciesOutside e.0 e.1) (find (λ e. not (int_lt e.1 many)) (enumerate_from 0 (map species_of blocks)))
+
 -- ---- the first of them
 
 abbrev pub courant_fault : Members → Option ProblemFault
@@ -164,9 +172,10 @@ fault_in table = first_some
     ∷ out_of_range table
     ∷ courant_fault table
     ∷ (numbers_at 4 table Sides >>= sides_differ)
-    ∷ (numbers_at 2 table Cells >>= (λ cells. rows_at 5 table Blocks >>= block_outside cells))
+    ∷ (numbers_at 2 table Cells >>= (λ cells. rows_at (version_in table) table Blocks >>= block_outside cells))
     ∷ (number_at table MaxLevel >>= (λ levels. integers_at table Tag >>= tag_count levels))
     ∷ (numbers_at 2 table Cells >>= (λ cells. number_at table Blocking >>= blocking_misfit cells))
+    ∷ (number_at table Species >>= (λ many. rows_at (version_in table) table Blocks >>= species_outside many))
     ∷ [])
 
 -- of bytes

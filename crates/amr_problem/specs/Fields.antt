@@ -11,15 +11,15 @@ abbrev pub sides_numbers : Sides → List ℤ
 sides_numbers Periodic = negsuc 0 ∷ negsuc 0 ∷ []
 sides_numbers (Open low high) = pos low ∷ pos high ∷ []
 
--- as a problem writes a block
+-- as a problem of version 3 writes a block; before it the species, which is 0 there, isn't written
 abbrev pub block_numbers : Block → List ℤ
-block_numbers b = pos b.x0 ∷ pos b.y0 ∷ pos b.x1 ∷ pos b.y1 ∷ pos b.mass ∷ []
+block_numbers b = pos b.x0 ∷ pos b.y0 ∷ pos b.x1 ∷ pos b.y1 ∷ pos b.mass ∷ pos b.species ∷ []
 
 -- ---- from entries to a problem
 
 -- The fields of a problem are what the entries say. They stand in the order of its limits.
 pub record AreValues (e : Entries) (version : ℕ) (name : List ℕ) (nx ny steps : ℕ) (cx cy : ℤ) (d : ℕ) (shear_x shear_y : List ℤ) (x_sides y_sides : Sides)
-    (max_level : ℕ) (tag : List ℕ) (n_error_buf efficiency min_width regrid_int blocking max_grid_size : ℕ) (blocks : List Block) : Type 0 where
+    (max_level : ℕ) (tag : List ℕ) (n_error_buf efficiency min_width regrid_int blocking max_grid_size : ℕ) (blocks : List Block) (species : ℕ) : Type 0 where
   pub version_is : e.basics.version ≡ pos version
   pub name_is : e.basics.name.items ≡ name
   pub nx_is : e.basics.nx ≡ pos nx
@@ -41,8 +41,9 @@ pub record AreValues (e : Entries) (version : ℕ) (name : List ℕ) (nx ny step
   pub blocking_is : e.overlay.blocking ≡ pos blocking
   pub max_grid_size_is : e.refining.max_grid_size ≡ pos max_grid_size
   pub blocks_are : e.overlay.blocks.items ≡ map block_numbers blocks
+  pub species_is : e.overlay.species ≡ pos species
 
 abbrev pub IsOfEntries : Entries → Problem → Type 0
 IsOfEntries e p =
     AreValues e p.version p.name p.nx p.ny p.steps p.cx p.cy p.d p.shear_x p.shear_y p.x_sides p.y_sides p.max_level p.tag p.n_error_buf p.efficiency
-    p.min_width p.regrid_int p.blocking p.max_grid_size p.blocks
+    p.min_width p.regrid_int p.blocking p.max_grid_size p.blocks p.species

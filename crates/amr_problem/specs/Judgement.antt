@@ -4,7 +4,7 @@ use Rattle.toml.specs.Data.{Members}
 use Rattle.amr_def.specs.declared.problem.Problem.{Problem}
 use Rattle.amr_problem.specs.declared.fault.ProblemFault.{ProblemFault}
 use Rattle.amr_problem.specs.declared.key.Key.TheVariants.{Version, Name, Cells, Steps, Courant, Sides, MaxLevel, Tag, NErrorBuf, Efficiency}
-use Rattle.amr_problem.specs.declared.key.Key.TheVariants.{MinWidth, RegridInt, MaxGridSize, Blocks, ShearX, ShearY, Blocking}
+use Rattle.amr_problem.specs.declared.key.Key.TheVariants.{MinWidth, RegridInt, MaxGridSize, Blocks, ShearX, ShearY, Blocking, Species}
 use Rattle.amr_problem.specs.Document.{table_of}
 use Rattle.amr_problem.specs.Fields.{sides_numbers, block_numbers}
 use Rattle.amr_problem.specs.Values.{number_at, text_at, numbers_at, integers_at, shear_at, rows_at}
@@ -25,12 +25,14 @@ pub record HasKeys (table : Members) (p : Problem) : Type 0 where
   pub min_width : number_at table MinWidth ≡ Some (pos p.min_width)
   pub regrid_int : number_at table RegridInt ≡ Some (pos p.regrid_int)
   pub max_grid_size : number_at table MaxGridSize ≡ Some (pos p.max_grid_size)
-  pub blocks : rows_at 5 table Blocks ≡ Some (map block_numbers p.blocks)
+  -- as the problem's version writes them
+  pub blocks : rows_at p.version table Blocks ≡ Some (map block_numbers p.blocks)
   -- cx for each row, or none where that of courant holds in all
   pub shear_x : shear_at (pos p.ny) table ShearX ≡ Some p.shear_x
   -- cy for each column, or none
   pub shear_y : shear_at (pos p.nx) table ShearY ≡ Some p.shear_y
   pub blocking : number_at table Blocking ≡ Some (pos p.blocking)
+  pub species : number_at table Species ≡ Some (pos p.species)
 
 -- the fault of bytes: none exactly where they are those of a problem
 unfoldable pub fault_of : List ℕ → Option ProblemFault

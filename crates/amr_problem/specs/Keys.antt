@@ -9,7 +9,7 @@ use Rattle.amr_box.specs.declared.Axis.{Axis}
 use Rattle.amr_box.specs.declared.Axis.TheVariants as axis
 use Rattle.amr_problem.specs.declared.key.Key.{Key}
 use Rattle.amr_problem.specs.declared.key.Key.TheVariants.{Version, Name, Cells, Steps, Courant, Sides, MaxLevel, Tag, NErrorBuf, Efficiency}
-use Rattle.amr_problem.specs.declared.key.Key.TheVariants.{MinWidth, RegridInt, MaxGridSize, Blocks, ShearX, ShearY, Blocking}
+use Rattle.amr_problem.specs.declared.key.Key.TheVariants.{MinWidth, RegridInt, MaxGridSize, Blocks, ShearX, ShearY, Blocking, Species}
 use Rattle.amr_problem.specs.declared.range.Range.{Range}
 use Rattle.amr_problem.specs.declared.range.Among.{Among}
 use Rattle.amr_problem.specs.declared.range.Among.TheVariants.{Every, Even, TwoFourEight}
@@ -30,7 +30,8 @@ pub data Kind : Type 0 where
   list : Range → Kind
   -- an array of integers of the range, one for each row of level 0 (on the x axis) or each column (on y)
   shear : Axis → Range → Kind
-  -- an array of at most so many arrays of integers, each with one for each range
+  -- an array of at most so many blocks, each an array of integers with these ranges; the last is that of a species, which blocks
+  -- have from version 3 on
   rows : ℕ → List Range → Kind
 
 -- a row of the table: the key as a problem writes it, its value, what stands where the key is absent, and the first version
@@ -41,11 +42,11 @@ pub record Row : Type 0 where
   pub absent : Absent
   pub version : ℕ
 
-abbrev pub row : List ℕ → Kind → Absent → Row
-row key value absent = record { key = key; value = value; absent = absent; version = 1 }
+abbrev pub row_from : ℕ → List ℕ → Kind → Absent → Row
+row_from version key value absent = record { key = key; value = value; absent = absent; version = version }
 
-abbrev pub row_2 : List ℕ → Kind → Absent → Row
-row_2 key value absent = record { key = key; value = value; absent = absent; version = 2 }
+abbrev pub row : List ℕ → Kind → Absent → Row
+row key value absent = row_from 1 key value absent
 
 -- the whole numbers from low to high, both inside
 abbrev pub range : ℤ → ℤ → Range
@@ -57,6 +58,9 @@ even_range low high = record { low = low; high = high; among = Even }
 
 abbrev pub blocking_factor : Range
 blocking_factor = record { low = pos 2; high = pos 8; among = TwoFourEight }
+
+abbrev pub versions : Range
+versions = range (pos 1) (pos 3)
 
 abbrev pub cell_count : Range
 cell_count = range (pos 2) (pos 256)
@@ -74,10 +78,16 @@ threshold = range (pos 1) (pos 1073741824)
 abbrev pub coordinate : Range
 coordinate = range (pos 0) (pos 255)
 
+abbrev pub block_mass : Range
+block_mass = range (pos 0) (pos 1073741824)
+
+abbrev pub block_species : Range
+block_species = range (pos 0) (pos 3)
+
 -- ---- the table
 
 abbrev pub row_of : Key → Row
-row_of Version = row (codes "version") (number (range (pos 1) (pos 2))) Required
+row_of Version = row (codes "version") (number versions) Required
 row_of Name = row (codes "name") (text (range (pos 1) (pos 32))) Required
 row_of Cells = row (codes "cells") (numbers (cell_count ∷ cell_count ∷ [])) Required
 row_of Steps = row (codes "steps") (number (range (pos 0) (pos 4096))) Required
@@ -90,16 +100,17 @@ row_of Efficiency = row (codes "efficiency") (number (range (pos 1) (pos 100))) 
 row_of MinWidth = row (codes "min_width") (number (range (pos 1) (pos 16))) (Number (pos 2))
 row_of RegridInt = row (codes "regrid_int") (number (range (pos 1) (pos 4096))) (Number (pos 2))
 row_of MaxGridSize = row (codes "max_grid_size") (number (even_range (pos 4) (pos 256))) (Number (pos 32))
-row_of Blocks = row (codes "blocks") (rows 256 (coordinate ∷ coordinate ∷ coordinate ∷ coordinate ∷ range (pos 0) (pos 1073741824) ∷ [])) Required
-row_of ShearX = row_2 (codes "shear_x") (shear axis.X courant_number) Empty
-row_of ShearY = row_2 (codes "shear_y") (shear axis.Y courant_number) Empty
-row_of Blocking = row_2 (codes "blocking") (number blocking_factor) (Number (pos 2))
+row_of Blocks = row (codes "blocks") (rows 256 (coordinate ∷ coordinate ∷ coordinate ∷ coordinate ∷ block_mass ∷ block_species ∷ [])) Required
+row_of ShearX = row_from 2 (codes "shear_x") (shear axis.X courant_number) Empty
+row_of ShearY = row_from 2 (codes "shear_y") (shear axis.Y courant_number) Empty
+row_of Blocking = row_from 2 (codes "blocking") (number blocking_factor) (Number (pos 2))
+row_of Species = row_from 3 (codes "species") (number (range (pos 1) (pos 4))) (Number (pos 1))
 
 -- every key, in the table's order
 abbrev pub keys : List Key
 keys =
     Version ∷ Name ∷ Cells ∷ Steps ∷ Courant ∷ Sides ∷ MaxLevel ∷ Tag ∷ NErrorBuf ∷ Efficiency ∷ MinWidth ∷ RegridInt ∷ MaxGridSize ∷ Blocks ∷ ShearX ∷ ShearY
-    ∷ Blocking ∷ []
+    ∷ Blocking ∷ Species ∷ []
 
 -- ---- what is read of it
 

@@ -1,7 +1,7 @@
 -- The values of a document, each read by the kind of its key.
 --     number_at, text_at, numbers_at, integers_at, shear_at, rows_at
 --         the value that stands at a key: none where there is none, or one of another kind
-use Rattle.std.specs.Prelude.{ℕ, ◌+◌, ℤ, pos, Bool, ◌==◌, List, [], ◌∷◌, Option, Some, None, option_map, option_and_then, is_some, if◌then◌else◌}
+use Rattle.std.specs.Prelude.{ℕ, ◌+◌, nat_lt, ℤ, pos, Bool, ◌==◌, List, [], ◌∷◌, ◌++◌, Option, Some, None, option_map, option_and_then, is_some, if◌then◌else◌}
 use Rattle.std.specs.Ordering.{int_eq}
 use Rattle.std.specs.Option.{option_or}
 use Rattle.toml.specs.Data.{Data, as_integer, as_str, as_array, Items, no_items, item, Members, get_member}
@@ -38,13 +38,17 @@ shear_in many items = if int_eq (pos (count items)) many then integers items els
 abbrev pub shear_of : ℤ → Data → Option (List ℤ)
 shear_of many d = as_array d >>= shear_in many
 
--- the rows of an array of arrays, each of so many integers
+-- the six integers of a block: its corners, its mass and its species, which is 0 before version 3, where a block is written without it
+abbrev pub block_of : ℕ → Data → Option (List ℤ)
+block_of version d = if nat_lt version 3 then option_map (λ zs. zs ++ pos 0 ∷ []) (numbers_of 5 d) else numbers_of 6 d
+
+-- the rows of an array of the version's blocks
 abbrev pub rows_in : ℕ → Items → Option (List (List ℤ))
-rows_in many no_items = Some []
-rows_in many (item d rest) = numbers_of many d >>= (λ zs. option_map (λ rows. zs ∷ rows) (rows_in many rest))
+rows_in version no_items = Some []
+rows_in version (item d rest) = block_of version d >>= (λ zs. option_map (λ rows. zs ∷ rows) (rows_in version rest))
 
 abbrev pub rows_of : ℕ → Data → Option (List (List ℤ))
-rows_of many d = as_array d >>= rows_in many
+rows_of version d = as_array d >>= rows_in version
 
 -- ---- at a key
 
@@ -69,7 +73,7 @@ unfoldable pub numbers_at : ℕ → Members → Key → Option (List ℤ)
 numbers_at many table key = value_at table key >>= numbers_of many
 
 unfoldable pub rows_at : ℕ → Members → Key → Option (List (List ℤ))
-rows_at many table key = value_at table key >>= rows_of many
+rows_at version table key = value_at table key >>= rows_of version
 
 unfoldable pub integers_at : Members → Key → Option (List ℤ)
 integers_at table key = value_at table key >>= integers_of

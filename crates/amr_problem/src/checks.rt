@@ -2,7 +2,8 @@
 
 ghost use Rattle.std.specs.Prelude.{◌≡◌, ◌≤◌, ◌+◌, pos, ◌≤ℤ◌, [], ◌∷◌, length, not, position, option_map, ◌&&◌, int_le, int_lt};
 ghost use Rattle.amr_def.specs.Limits.{greatest_size, in_use};
-ghost use Rattle.amr_problem.specs.Faults.{over_by, is_periodic, differ, sides_differ, block_outside, is_inside, tag_count, fits, blocking_misfit};
+ghost use Rattle.amr_problem.specs.Faults.{over_by, is_periodic, differ, sides_differ, block_outside, is_inside, tag_count, fits};
+ghost use Rattle.amr_problem.specs.Faults.{blocking_misfit, species_outside};
 
 use crate::fault::ProblemFault;
 use amr_box::Axis;
@@ -74,7 +75,7 @@ pub fn sides_differ(x_low: i64, x_high: i64, y_low: i64, y_high: i64) -> Option<
 }
 
 /// The first block that has its corners out of order, or lies outside of the cells.
-pub fn block_outside(nx: i64, ny: i64, blocks: &[[i64; 5]]) -> Option<ProblemFault>
+pub fn block_outside(nx: i64, ny: i64, blocks: &[[i64; 6]]) -> Option<ProblemFault>
     requires { length blocks.now ≤ 256 }
     ensures { result ≡ block_outside (nx ∷ ny ∷ []) blocks.now }
 {
@@ -84,16 +85,16 @@ pub fn block_outside(nx: i64, ny: i64, blocks: &[[i64; 5]]) -> Option<ProblemFau
     }
 }
 
-fn first_outside(nx: i64, ny: i64, blocks: &[[i64; 5]]) -> Option<usize>
+fn first_outside(nx: i64, ny: i64, blocks: &[[i64; 6]]) -> Option<usize>
     ensures { result ≡ position (λ block. not (is_inside (nx ∷ ny ∷ []) block)) blocks.now }
 {
     blocks.iter().position(|block| !is_inside(nx, ny, block))
 }
 
-fn is_inside(nx: i64, ny: i64, block: &[i64; 5]) -> bool
+fn is_inside(nx: i64, ny: i64, block: &[i64; 6]) -> bool
     ensures { result ≡ is_inside (nx ∷ ny ∷ []) block.now }
 {
-    let [x0, y0, x1, y1, _] = *block;
+    let [x0, y0, x1, y1, _, _] = *block;
     let along = is_between(x0, x1, nx);
     let across = is_between(y0, y1, ny);
     along && across
@@ -130,6 +131,20 @@ pub fn blocking_misfit(nx: i64, ny: i64, blocking: i64) -> Option<ProblemFault>
     } else {
         None
     }
+}
+
+/// The first block whose species is none of so many, and that species.
+pub fn species_outside(species: i64, blocks: &[[i64; 6]]) -> Option<ProblemFault>
+    requires { length blocks.now ≤ 256 }
+    ensures { result ≡ species_outside species blocks.now }
+{
+    for (index, block) in blocks.iter().enumerate() {
+        let own = block[5];
+        if own >= species {
+            return Some(ProblemFault::SpeciesOutside(index as u32, own));
+        }
+    }
+    None
 }
 
 fn fits(blocking: i64, cells: i64) -> bool

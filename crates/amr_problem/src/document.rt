@@ -6,11 +6,12 @@ ghost use Rattle.toml.specs.View.{table_view, view};
 ghost use Rattle.amr_problem.specs.Document.{document};
 ghost use Rattle.amr_problem.specs.Keys.{is_known, keys};
 ghost use Rattle.amr_problem.specs.Values.{written_at, is_there, number_at};
-ghost use Rattle.amr_problem.specs.Faults.{is_two, version_in, keys_in, unknown_key, missing_key};
+ghost use Rattle.amr_problem.specs.Faults.{known_version, version_in, keys_in, unknown_key, missing_key};
 
 use crate::fault::{JudgeFault, ProblemFault};
 use crate::key::{KEYS, Key, is_known};
 use crate::key_text::KeyText;
+use crate::limits::VERSIONS;
 use std::alloc::{AllocError, Global};
 use toml::{Table, Value};
 
@@ -56,20 +57,24 @@ pub fn number_at(table: &Table, key: Key) -> Option<i64>
     }
 }
 
-fn is_second(table: &Table) -> bool
-    ensures { result ≡ is_two (number_at (table_view table.now) Key.Version) }
+fn known_version(number: i64) -> u32
+    ensures { result ≡ known_version number }
 {
-    match number_at(table, Key::Version) {
-        Some(version) => version == 2,
-        None => false,
+    if VERSIONS.holds(number) {
+        number as u32
+    } else {
+        1
     }
 }
 
-/// The version whose keys are known.
-fn version_in(table: &Table) -> u32
+/// The version whose keys are known and whose blocks are read: 1 where the document names none that there is.
+pub fn version_in(table: &Table) -> u32
     ensures { result ≡ version_in (table_view table.now) }
 {
-    if is_second(table) { 2 } else { 1 }
+    match number_at(table, Key::Version) {
+        Some(number) => known_version(number),
+        None => 1,
+    }
 }
 
 fn unknown_text(version: u32, table: &Table) -> Option<&String>

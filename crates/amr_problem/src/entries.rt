@@ -9,7 +9,7 @@ ghost use Rattle.amr_problem.specs.Entries.{basic_keys, refining_keys, overlay_k
 use crate::document::number_at;
 use crate::fault::{JudgeFault, ProblemFault};
 use crate::key::Key;
-use crate::kinds::{integers_at, numbers_at, rows_at, shear_at, text_at};
+use crate::kinds::{blocks_at, integers_at, numbers_at, shear_at, text_at};
 use std::alloc::Global;
 use toml::Table;
 
@@ -50,13 +50,14 @@ pub struct Refining {
     pub max_grid_size: i64,
 }
 
-/// What is laid over level 0: masses, Courant numbers by rows and by columns, and the blocking.
+/// What is laid over level 0: masses, Courant numbers by rows and by columns, the blocking, and how many species there are.
 #[derive(Drop)]
 pub struct Overlay {
-    pub blocks: Vec<[i64; 5]>,
+    pub blocks: Vec<[i64; 6]>,
     pub shear_x: Vec<i64>,
     pub shear_y: Vec<i64>,
     pub blocking: i64,
+    pub species: i64,
 }
 
 impl Entries {
@@ -157,9 +158,7 @@ impl Overlay {
         ensures kinds { IfOk result (λ _. first_wrong (table_view table.now) overlay_keys ≡ None) }
         ensures refused { (f : _) → IsErrOf result (JudgeFault.Fault f) → first_wrong (table_view table.now) overlay_keys ≡ Some f }
     {
-        let blocks = rows_at(alloc, table, Key::Blocks)?.ok_or(ProblemFault::WrongKind(
-            Key::Blocks,
-        ))?;
+        let blocks = blocks_at(alloc, table)?.ok_or(ProblemFault::WrongKind(Key::Blocks))?;
         let shear_x = shear_at(alloc, table, Key::ShearX, ny)?.ok_or(ProblemFault::WrongKind(
             Key::ShearX,
         ))?;
@@ -169,11 +168,13 @@ impl Overlay {
         let blocking = number_at(table, Key::Blocking).ok_or(ProblemFault::WrongKind(
             Key::Blocking,
         ))?;
+        let species = number_at(table, Key::Species).ok_or(ProblemFault::WrongKind(Key::Species))?;
         Ok(Overlay {
             blocks,
             shear_x,
             shear_y,
             blocking,
+            species,
         })
     }
 }

@@ -30,6 +30,8 @@ pub enum ProblemFault {
     TagCount(i64, i64),
     /// Half of this blocking factor doesn't divide the number of cells of level 0 along the axis.
     Blocking(Axis, i64),
+    /// The block with this index, counted from 0, is of this species, which isn't below the number of species.
+    SpeciesOutside(u32, i64),
 }
 
 /// Why `judge` gives no problem.

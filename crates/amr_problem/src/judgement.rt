@@ -4,12 +4,13 @@ ghost use Rattle.std.specs.Prelude.{◌≡◌, ◌≤◌, Some, None, IfOk, OnOk
 ghost use Rattle.std.specs.Option.{option_or};
 ghost use Rattle.toml.specs.View.{table_view};
 ghost use Rattle.amr_problem.specs.Faults.{unknown_key, missing_key, courant_over, fault_in};
-ghost use Rattle.amr_problem.specs.Entries.{entry_fault, in_range_fault, HasShears, IsOverlayInRange, IsClean};
+ghost use Rattle.amr_problem.specs.Entries.{entry_fault, in_range_fault, FitsBasics, IsOverlayInRange, IsClean};
 ghost use Rattle.amr_problem.specs.Fields.{IsOfEntries};
 ghost use Rattle.amr_problem.specs.Judgement.{fault_of, HasKeys, IsProblemOf};
 
 use crate::checks::{
-    block_outside, blocking_misfit, courant_over, sides_differ, size_in_use, tag_count,
+    block_outside, blocking_misfit, courant_over, sides_differ, size_in_use, species_outside,
+    tag_count,
 };
 use crate::document::{missing_key, read, unknown_key};
 use crate::entries::{Basics, Entries, Overlay};
@@ -57,7 +58,7 @@ fn key_fault(alloc: Global, table: &Table) -> Result<Option<ProblemFault>, Alloc
 }
 
 fn of_entries(alloc: Global, entries: Entries) -> Result<Problem, JudgeFault>
-    requires { HasShears entries.basics.nx entries.basics.ny entries.overlay }
+    requires { FitsBasics entries.basics entries.overlay }
     ensures clean { OnOk result (entry_fault entries ≡ None) }
     ensures values { IfOk result (IsOfEntries entries) }
     ensures refused { (f : _) → IsErrOf result (JudgeFault.Fault f) → entry_fault entries ≡ Some f }
@@ -91,6 +92,7 @@ fn in_range_fault(entries: &Entries) -> Option<ProblemFault>
         .or(block_outside(basics.nx, basics.ny, overlay.blocks.as_slice()))
         .or(tag_count(basics.max_level, entries.refining.tag.as_slice()))
         .or(blocking_misfit(basics.nx, basics.ny, overlay.blocking))
+        .or(species_outside(overlay.species, overlay.blocks.as_slice()))
 }
 
 fn courant_fault(basics: &Basics, overlay: &Overlay) -> Option<ProblemFault>

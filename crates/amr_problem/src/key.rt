@@ -48,18 +48,21 @@ pub enum Key {
     RegridInt,
     /// The greatest side of a patch that a box is chopped into; 32 where it is absent.
     MaxGridSize,
-    /// The rectangles that start with mass: low column, low row, high column, high row, and the mass of each cell.
+    /// The rectangles that start with mass: low column, low row, high column, high row, and the mass of each cell; in version 3
+    /// then the species.
     Blocks,
-    /// Of version 2: for each row of level 0 what stands in the place of the x axis's numerator.
+    /// From version 2 on: for each row of level 0 what stands in the place of the x axis's numerator.
     ShearX,
-    /// Of version 2: for each column of level 0 what stands in the place of the y axis's numerator.
+    /// From version 2 on: for each column of level 0 what stands in the place of the y axis's numerator.
     ShearY,
-    /// Of version 2: the multiple that corners of boxes above level 0 lie on; 2 where it is absent.
+    /// From version 2 on: the multiple that corners of boxes above level 0 lie on; 2 where it is absent.
     Blocking,
+    /// From version 3 on: how many species there are; 1 where it is absent.
+    Species,
 }
 
 /// Every key, in the table's order.
-pub static KEYS: [Key; 17] = [
+pub static KEYS: [Key; 18] = [
     Key::Version,
     Key::Name,
     Key::Cells,
@@ -77,6 +80,7 @@ pub static KEYS: [Key; 17] = [
     Key::ShearX,
     Key::ShearY,
     Key::Blocking,
+    Key::Species,
 ];
 
 impl Absent {
@@ -130,6 +134,7 @@ impl Key {
             Key::ShearX => "shear_x",
             Key::ShearY => "shear_y",
             Key::Blocking => "blocking",
+            Key::Species => "species",
         }
     }
 
@@ -139,6 +144,7 @@ impl Key {
     {
         match self {
             Key::ShearX | Key::ShearY | Key::Blocking => 2,
+            Key::Species => 3,
             _ => 1,
         }
     }
@@ -149,7 +155,7 @@ impl Key {
     {
         match self {
             Key::Tag | Key::ShearX | Key::ShearY => Absent::Empty,
-            Key::NErrorBuf => Absent::Number(1),
+            Key::NErrorBuf | Key::Species => Absent::Number(1),
             Key::Efficiency => Absent::Number(70),
             Key::MinWidth | Key::RegridInt | Key::Blocking => Absent::Number(2),
             Key::MaxGridSize => Absent::Number(32),

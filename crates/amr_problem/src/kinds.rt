@@ -4,8 +4,9 @@ ghost use Rattle.std.specs.Prelude.{◌≡◌, IfOk, option_map};
 ghost use Rattle.toml.specs.View.{table_view};
 ghost use Rattle.amr_problem.specs.Keys.{absent_of};
 ghost use Rattle.amr_problem.specs.Values.{text_at, numbers_at, integers_at, shear_at, rows_at};
+ghost use Rattle.amr_problem.specs.Faults.{version_in};
 
-use crate::document::written_at;
+use crate::document::{version_in, written_at};
 use crate::key::{Absent, Key};
 use crate::values::{integers_of, numbers_of, rows_of, shear_of};
 use std::alloc::{AllocError, Global};
@@ -71,16 +72,24 @@ pub fn shear_at(
 }
 
 #[tactic(auto, unfolding(crate::specs::Values::rows_at))]
-pub fn rows_at<const N: usize>(
+fn rows_at(
     alloc: Global,
     table: &Table,
     key: Key,
-) -> Result<Option<Vec<[i64; N]>>, AllocError>
+    version: u32,
+) -> Result<Option<Vec<[i64; 6]>>, AllocError>
     requires { absent_of key ≡ Absent.Required }
-    ensures { IfOk result (λ o. option_map (λ v. v.items) o ≡ rows_at N (table_view table.now) key) }
+    ensures { IfOk result (λ o. option_map (λ v. v.items) o ≡ rows_at version (table_view table.now) key) }
 {
     match written_at(table, key) {
-        Some(value) => rows_of(alloc, value),
+        Some(value) => rows_of(alloc, value, version),
         None => Ok(None),
     }
+}
+
+/// The blocks, as the document's version has them.
+pub fn blocks_at(alloc: Global, table: &Table) -> Result<Option<Vec<[i64; 6]>>, AllocError>
+    ensures { IfOk result (λ o. option_map (λ v. v.items) o ≡ rows_at (version_in (table_view table.now)) (table_view table.now) Key.Blocks) }
+{
+    rows_at(alloc, table, Key::Blocks, version_in(table))
 }

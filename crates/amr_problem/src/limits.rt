@@ -6,10 +6,10 @@ ghost use Rattle.amr_problem.specs.Keys.{ranges_of};
 use crate::key::Key;
 use crate::range::{Among, Range};
 
-// The versions of the format.
-const VERSIONS: Range = Range {
+/// The versions of the format.
+pub const VERSIONS: Range = Range {
     low: 1,
-    high: 2,
+    high: 3,
     among: Among::Every,
 };
 
@@ -118,11 +118,25 @@ const MASS: Range = Range {
     among: Among::Every,
 };
 
+// The species of a block.
+const BLOCK_SPECIES: Range = Range {
+    low: 0,
+    high: 3,
+    among: Among::Every,
+};
+
 // The blocking factor.
 const BLOCKING: Range = Range {
     low: 2,
     high: 8,
     among: Among::TwoFourEight,
+};
+
+// How many species there are.
+const SPECIES: Range = Range {
+    low: 1,
+    high: 4,
+    among: Among::Every,
 };
 
 impl Key {
@@ -144,10 +158,18 @@ impl Key {
             Key::MinWidth => &[WIDTH],
             Key::RegridInt => &[INTERVAL],
             Key::MaxGridSize => &[GRID_SIZE],
-            Key::Blocks => &[COORDINATE, COORDINATE, COORDINATE, COORDINATE, MASS],
+            Key::Blocks => &[
+                COORDINATE,
+                COORDINATE,
+                COORDINATE,
+                COORDINATE,
+                MASS,
+                BLOCK_SPECIES,
+            ],
             Key::ShearX => &[COURANT],
             Key::ShearY => &[COURANT],
             Key::Blocking => &[BLOCKING],
+            Key::Species => &[SPECIES],
         }
     }
 }

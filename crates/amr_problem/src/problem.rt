@@ -5,7 +5,7 @@ ghost use Rattle.std.specs.List.{list_all};
 ghost use Rattle.amr_problem.specs.Keys.{ranges_of, first_outside, holds, threshold, courant_number};
 ghost use Rattle.amr_problem.specs.Fields.{sides_numbers, block_numbers, IsOfEntries};
 ghost use Rattle.amr_problem.specs.Faults.{is_periodic};
-ghost use Rattle.amr_problem.specs.Entries.{IsSide, IsClean, HasShears};
+ghost use Rattle.amr_problem.specs.Entries.{IsSide, IsClean, FitsBasics};
 
 use crate::checks::is_periodic;
 use crate::entries::Entries;
@@ -16,7 +16,7 @@ use std::alloc::{AllocError, Global};
 /// The problem that entries without a fault are.
 pub fn problem(alloc: Global, entries: Entries) -> Result<Problem, AllocError>
     requires clean { IsClean entries }
-    requires shears { HasShears entries.basics.nx entries.basics.ny entries.overlay }
+    requires fits { FitsBasics entries.basics entries.overlay }
     ensures { IfOk result (IsOfEntries entries) }
 {
     let Entries {
@@ -50,6 +50,7 @@ pub fn problem(alloc: Global, entries: Entries) -> Result<Problem, AllocError>
         blocking: small(overlay.blocking),
         max_grid_size: small(refining.max_grid_size),
         blocks: Blocks::make(blocks),
+        species: small(overlay.species),
     })
 }
 
@@ -117,7 +118,7 @@ fn numerator(number: i64) -> i32
     number as i32
 }
 
-fn blocks(alloc: Global, rows: &[[i64; 5]]) -> Result<Vec<Block>, AllocError>
+fn blocks(alloc: Global, rows: &[[i64; 6]]) -> Result<Vec<Block>, AllocError>
     requires { list_all (λ row. is_none (first_outside (ranges_of Key.Blocks) row)) rows.now ≡ true }
     ensures { IfOk result (λ blocks. map block_numbers blocks.items ≡ rows.now) }
 {
@@ -128,17 +129,17 @@ fn blocks(alloc: Global, rows: &[[i64; 5]]) -> Result<Vec<Block>, AllocError>
     Ok(blocks)
 }
 
-fn block_of(row: &[i64; 5]) -> Block
+fn block_of(row: &[i64; 6]) -> Block
     requires { first_outside (ranges_of Key.Blocks) row.now ≡ None }
     ensures { block_numbers result ≡ row.now }
 {
-    let [x0, y0, x1, y1, mass] = *row;
-    block(x0, y0, x1, y1, mass)
+    let [x0, y0, x1, y1, mass, species] = *row;
+    block(x0, y0, x1, y1, mass, species)
 }
 
-fn block(x0: i64, y0: i64, x1: i64, y1: i64, mass: i64) -> Block
-    requires { first_outside (ranges_of Key.Blocks) (x0 ∷ y0 ∷ x1 ∷ y1 ∷ mass ∷ []) ≡ None }
-    ensures { block_numbers result ≡ x0 ∷ y0 ∷ x1 ∷ y1 ∷ mass ∷ [] }
+fn block(x0: i64, y0: i64, x1: i64, y1: i64, mass: i64, species: i64) -> Block
+    requires { first_outside (ranges_of Key.Blocks) (x0 ∷ y0 ∷ x1 ∷ y1 ∷ mass ∷ species ∷ []) ≡ None }
+    ensures { block_numbers result ≡ x0 ∷ y0 ∷ x1 ∷ y1 ∷ mass ∷ species ∷ [] }
 {
     Block {
         x0: x0 as u32,
@@ -146,5 +147,6 @@ fn block(x0: i64, y0: i64, x1: i64, y1: i64, mass: i64) -> Block
         x1: x1 as u32,
         y1: y1 as u32,
         mass: mass as u64,
+        species: species as u32,
     }
 }

@@ -59,6 +59,7 @@ fn overlay(overlay: &Overlay) -> Option<ProblemFault>
         .or(shear(Key::ShearX, overlay.shear_x.as_slice()))
         .or(shear(Key::ShearY, overlay.shear_y.as_slice()))
         .or(numbers(Key::Blocking, &[overlay.blocking]))
+        .or(numbers(Key::Species, &[overlay.species]))
 }
 
 fn numbers(key: Key, numbers: &[i64]) -> Option<ProblemFault>
@@ -112,7 +113,7 @@ fn is_name_byte(byte: u8) -> bool
     byte.is_ascii_lowercase() || byte.is_ascii_digit() || byte == b'-' || byte == b'_'
 }
 
-fn blocks(rows: &[[i64; 5]]) -> Option<ProblemFault>
+fn blocks(rows: &[[i64; 6]]) -> Option<ProblemFault>
     ensures { result ≡ option_map (ProblemFault.OutOfRange Key.Blocks) (rows_outside 256 (ranges_of Key.Blocks) rows.now) }
 {
     let outside = if rows.len() > MOST_BLOCKS {
@@ -126,7 +127,7 @@ fn blocks(rows: &[[i64; 5]]) -> Option<ProblemFault>
     }
 }
 
-fn first_row_outside(rows: &[[i64; 5]]) -> Option<i64>
+fn first_row_outside(rows: &[[i64; 6]]) -> Option<i64>
     ensures { result ≡ first_some (map (first_outside (ranges_of Key.Blocks)) rows.now) }
 {
     for row in rows {

@@ -1,9 +1,9 @@
 //! The values of a document, each read as its key's kind has it.
 
-ghost use Rattle.std.specs.Prelude.{◌≡◌, length, pos, Some, None, option_map, IfOk};
+ghost use Rattle.std.specs.Prelude.{◌≡◌, [], ◌∷◌, ◌++◌, length, pos, Some, None, option_map, IfOk};
 ghost use Rattle.std.specs.Ordering.{int_eq};
 ghost use Rattle.toml.specs.View.{view, items_view};
-ghost use Rattle.amr_problem.specs.Values.{count, integers, integers_of, numbers_in, numbers_of, shear_in, shear_of, rows_in, rows_of};
+ghost use Rattle.amr_problem.specs.Values.{count, integers, integers_of, numbers_in, numbers_of, shear_in, shear_of, block_of, rows_in, rows_of};
 
 use std::alloc::{AllocError, Global};
 use toml::Value;
@@ -63,16 +63,36 @@ pub fn shear_in(alloc: Global, items: &[Value], many: i64) -> Result<Option<Vec<
     }
 }
 
-/// The rows of an array of arrays, each of `N` integers.
-pub fn rows_in<const N: usize>(
+fn of_first_species(block: [i64; 5]) -> [i64; 6]
+    ensures { result ≡ block ++ pos 0 ∷ [] }
+{
+    let [x0, y0, x1, y1, mass] = block;
+    [x0, y0, x1, y1, mass, 0]
+}
+
+/// The six integers of a value that is a block, which before version 3 has five and is of species 0.
+pub fn block_of(value: &Value, version: u32) -> Option<[i64; 6]>
+    ensures { result ≡ block_of version (view value.now) }
+{
+    if version < 3 {
+        let block = numbers_of::<5>(value)?;
+        Some(of_first_species(block))
+    } else {
+        numbers_of::<6>(value)
+    }
+}
+
+/// The rows of an array of the version's blocks.
+pub fn rows_in(
     alloc: Global,
     items: &[Value],
-) -> Result<Option<Vec<[i64; N]>>, AllocError>
-    ensures { IfOk result (λ o. option_map (λ v. v.items) o ≡ rows_in N (items_view items.now)) }
+    version: u32,
+) -> Result<Option<Vec<[i64; 6]>>, AllocError>
+    ensures { IfOk result (λ o. option_map (λ v. v.items) o ≡ rows_in version (items_view items.now)) }
 {
     let mut rows = Vec::new(alloc);
     for item in items {
-        let Some(row) = numbers_of(item) else {
+        let Some(row) = block_of(item, version) else {
             return Ok(None);
         };
         rows.push(row)?;
@@ -90,15 +110,16 @@ pub fn numbers_of<const N: usize>(value: &Value) -> Option<[i64; N]>
     }
 }
 
-/// The rows of a value that is an array of arrays, each of `N` integers.
-pub fn rows_of<const N: usize>(
+/// The rows of a value that is an array of the version's blocks.
+pub fn rows_of(
     alloc: Global,
     value: &Value,
-) -> Result<Option<Vec<[i64; N]>>, AllocError>
-    ensures { IfOk result (λ o. option_map (λ v. v.items) o ≡ rows_of N (view value.now)) }
+    version: u32,
+) -> Result<Option<Vec<[i64; 6]>>, AllocError>
+    ensures { IfOk result (λ o. option_map (λ v. v.items) o ≡ rows_of version (view value.now)) }
 {
     match value.as_array() {
-        Some(items) => rows_in(alloc, items),
+        Some(items) => rows_in(alloc, items, version),
         None => Ok(None),
     }
 }

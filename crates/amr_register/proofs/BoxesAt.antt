@@ -6,7 +6,7 @@ use Rattle.amr_patch.specs.Patches.{ArePatchesApart, box}
 use Rattle.amr_patch.proofs.Lookups.{one_patch}
 use Rattle.amr_register.specs.declared.register.Register.{Register}
 use Rattle.amr_register.specs.EdgeCells.{edge_at}
-use Rattle.amr_register.specs.Registers.{HasEdgesOf, IsBoxAt, edges_in}
+use Rattle.amr_register.specs.Fields.{HasEdgesOf, IsBoxAt, edges_in}
 use Rattle.amr_register.proofs.NetLists.{boxes_count, list_in_box}
 
 -- each box is that of the patch at its place, since no cell is in two of them

@@ -18,7 +18,7 @@ use Rattle.amr_register.specs.RegisterCells.{is_coarse_fine, is_register_cell}
 use Rattle.amr_register.specs.Beside.{HasSides}
 use Rattle.amr_register.specs.Entries.{AreRising, entry_at}
 use Rattle.amr_register.specs.CoarseFlows.{coarse_flows, high_face, low_face, net_owned, owned_flow}
-use Rattle.amr_register.specs.Registers.{IsRegisterOf, cells_in, sides_in}
+use Rattle.amr_register.specs.Fields.{IsRegisterOf, cells_in, sides_in}
 use Rattle.amr_register.proofs.CellLists.{where_inside, where_passes}
 use Rattle.amr_register.proofs.CollectLaws.{none_covered}
 use Rattle.amr_register.proofs.EntryLaws.{entry_of_place}

@@ -15,7 +15,7 @@ use Rattle.amr_patch.specs.Patches.{ArePatchesApart, KeepsFrameAndFluxes, box, m
 use Rattle.amr_patch.proofs.Lookups.{masses_in-at, same_default}
 use Rattle.amr_register.specs.declared.register.Register.{Register}
 use Rattle.amr_register.specs.Entries.{AreRising, with_entries}
-use Rattle.amr_register.specs.Registers.{HasEdgesOf, IsBoxAt}
+use Rattle.amr_register.specs.Fields.{HasEdgesOf, IsBoxAt}
 use Rattle.amr_register.proofs.BoxesAt.{box_at}
 use Rattle.amr_register.proofs.Changed.{AreChanged}
 use Rattle.amr_register.proofs.RowOrder.{row_cmp-itself}

@@ -13,7 +13,7 @@ use Rattle.amr_register.specs.declared.sides.CoveredSides.{CoveredSides}
 use Rattle.amr_register.specs.RegisterCells.{has_neighbour_where, is_register_cell}
 use Rattle.amr_register.specs.Beside.{HasSides, HaveSides}
 use Rattle.amr_register.specs.EdgeCells.{HaveEachOnce, SameEdges}
-use Rattle.amr_register.specs.Registers.{HasEdgesOf, IsPlaced, IsRegisterOf, IsWithEdges, SameCells, cells_in, edges_in, entry_in, sides_in}
+use Rattle.amr_register.specs.Fields.{HasEdgesOf, IsPlaced, IsRegisterOf, IsWithEdges, SameCells, cells_in, edges_in, entry_in, sides_in}
 use Rattle.amr_register.proofs.CellLists.{is_or_not}
 use Rattle.amr_register.proofs.EdgeLists.{kept_edges, kept_in, same_edges_itself, same_edges_twice}
 use Rattle.amr_register.proofs.EntryLaws.{entry_of_none}

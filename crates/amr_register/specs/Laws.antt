@@ -11,7 +11,7 @@ use Rattle.amr_patch.specs.declared.patches.Patch.{Patch}
 use Rattle.amr_patch.specs.Patches.{ArePatchesApart, masses_in}
 use Rattle.amr_faces.specs.Faces.{ShowsValues}
 use Rattle.amr_register.specs.declared.register.Register.{Register}
-use Rattle.amr_register.specs.Registers.{IsRegisterOf}
+use Rattle.amr_register.specs.Fields.{IsRegisterOf}
 use Rattle.amr_register.specs.CoarseFlows.{coarse_flows, edge_flows}
 use Rattle.amr_register.specs.RegisterCells.{is_register_cell}
 

@@ -9,5 +9,5 @@ pub mod Collecting
 pub mod CoarseFlows
 pub mod EdgeCells
 pub mod Written
-pub mod Registers
+pub mod Fields
 pub mod Laws

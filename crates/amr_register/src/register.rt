@@ -47,7 +47,7 @@ pub struct Register {
     ghost entry_count: { length entries.items ≡ length cells.items },
 }
 
-#[tactic(auto, unfolding(crate::specs::Registers::cells_in, crate::specs::Registers::sides_in, crate::specs::Registers::edges_in, crate::specs::Registers::entry_in))]
+#[tactic(auto, unfolding(crate::specs::Fields::cells_in, crate::specs::Fields::sides_in, crate::specs::Fields::edges_in, crate::specs::Fields::entry_in))]
 impl Register {
     ghost use Rattle.std.specs.Prelude.{ℕ, [], map, ℤ, suc, ◌<◌, ◌≤◌, ◌≢◌, ◌^◌, pos, negsuc, ◌+ℤ◌, ◌-ℤ◌, ◌≤ℤ◌};
     ghost use Rattle.std.specs.Prelude.{◌<ℤ◌, IfOk, IsSome, IsTrue, slice_index_or, unsigned_abs};
@@ -67,7 +67,7 @@ impl Register {
     ghost use Rattle.amr_register.specs.CoarseFlows.{coarse_flows};
     ghost use Rattle.amr_register.specs.Entries.{with_entries};
     ghost use Rattle.amr_register.specs.EdgeCells.{IsSmallNet, lists_of};
-    ghost use Rattle.amr_register.specs.Registers.{HasEdgesOf, IsBoxAt, IsPlaced, IsRegisterOf, IsWithEdges, SameCells, cells_in, edges_in, entry_in};
+    ghost use Rattle.amr_register.specs.Fields.{HasEdgesOf, IsBoxAt, IsPlaced, IsRegisterOf, IsWithEdges, SameCells, cells_in, edges_in, entry_in};
 
     /// The register of level `l`, 0 to 3, below the finer level `l + 1`. Each entry is 0. The two levels are nested. The finer
     /// level's boxes tell which cells are covered, a stretch of a row at a look. Which patch of the coarse level has a

@@ -1,34 +1,23 @@
 -- The levels of a sound state, and those that a regrid leaves.
-use Rattle.std.proofs.Common.{◌≡◌, inl, inr, ℕ, suc, ◌+◌, ◌<◌, ◌≤◌, refl, sym, ap, subst, ◌∙◌, arith, List, [], ◌∷◌, length, map}
-use Rattle.std.specs.Prelude.{min, slice_index_or}
-use Rattle.std.specs.Global.{Vec}
+use Rattle.std.proofs.Common.{◌≡◌, inl, inr, ℕ, suc, ◌<◌, ◌≤◌, refl, ap, subst, ◌∙◌, arith, List, [], ◌∷◌, length, map}
+use Rattle.std.specs.Prelude.{slice_index_or}
 use Rattle.std.specs.List.{All}
 use Rattle.std.proofs.lemmas.List.{get_or_default}
-use Rattle.amr_box.specs.Cells.{Extent}
 use Rattle.amr_def.specs.declared.problem.Problem.{Problem}
 use Rattle.amr_def.specs.Domain.{domain, domain_box}
 use Rattle.amr_def.specs.Facts.{IsLevel}
-use Rattle.amr_def.specs.NewBoxes.{new_boxes}
-use Rattle.amr_def.specs.Regrid.{new_level_count}
 use Rattle.amr_def.specs.State as defined
 use Rattle.amr_def.specs.State.{level_at, no_level}
-use Rattle.amr_def.specs.Tags.{is_tagged}
-use Rattle.amr_laws.proofs.SoundRegrid.{new_boxes_count}
 use Rattle.amr_patch.specs.declared.levels.Level.{Level}
 use Rattle.amr_patch.specs.Levels.{level_of}
 use Rattle.amr_regrid.specs.declared.masses.Remade.{Remade}
 use Rattle.amr_regrid.specs.declared.masses.Remade.TheVariants.{Kept, Made}
-use Rattle.amr_regrid.specs.Outlines.{IsSoundWith, lists_in, outlines, regridded_boxes, with_levels}
+use Rattle.amr_regrid.specs.Outlines.{IsSoundWith, outlines, with_levels}
 use Rattle.amr_regrid.specs.Remade.{AreChoppedOrKept, IsChoppedIfMade, HasMassesInBoxes, remade_levels}
-use Rattle.amr_regrid.proofs.OutlineLaws.{same_levels}
 
 pub level_count : (ks : List Level) → length (map level_of ks) ≡ length ks
 level_count [] = refl
 level_count (k ∷ ks) = ap suc (level_count ks)
-
-list_count : (bs : List (Vec Extent)) → length (lists_in bs) ≡ length bs
-list_count [] = refl
-list_count (b ∷ bs) = ap suc (list_count bs)
 
 module _ (p : Problem) (ks : List Level) (sound : IsSoundWith p ks) where
   pub many : length sound.state.levels ≡ length ks
@@ -59,22 +48,6 @@ module _ (p : Problem) (ks : List Level) (sound : IsSoundWith p ks) where
         let inside : suc k < length ks = (let e : length ks ≡ suc (length olds) = ap length parts in omega (arith, e, h, level_count olds)) in
         let level : IsLevel p (suc k) (slice_index_or (map level_of olds) k no_level) = subst (λ (js : List Level). IsLevel p (suc k) (level_at (with_levels js) (suc k))) parts (each_level (suc k) inside) in
         subst HasMassesInBoxes (get_or_default (map level_of olds) k no_level d h) (record { at = level.filled })
-
--- ---- levels that keep their outlines
-
-pub sound_stays : (p : Problem) (js ks : List Level) → outlines js ≡ outlines ks → IsSoundWith p ks → IsSoundWith p js
-sound_stays p js ks e s = record { state = s.state; levels_are = s.levels_are ∙ sym (same_levels js ks e); sound = s.sound }
-
-pub same_boxes : (p : Problem) (js ks : List Level) → outlines js ≡ outlines ks → regridded_boxes p ks ≡ regridded_boxes p js
-same_boxes p js ks e =
-    ap (λ (ls : List defined.Level). new_boxes p (is_tagged p (record { step = 0; rows = []; levels = ls })) (new_level_count p (record { step = 0; rows = []; levels = ls })) 0) (sym (same_levels js ks e))
-
--- ---- how many there are
-
-pub few_remade : (p : Problem) (ks : List Level) (boxes : List (Vec Extent)) (rs : List Remade) → lists_in boxes ≡ regridded_boxes p ks → length rs ≤ length boxes → length rs + 1 ≤ length ks + 1
-few_remade p ks boxes rs is h =
-    let count : length (lists_in boxes) ≡ min (length (map level_of ks)) p.max_level = ap length is ∙ new_boxes_count p (is_tagged p (with_levels ks)) (new_level_count p (with_levels ks)) 0 in
-    omega (arith, count, list_count boxes, level_count ks, h)
 
 -- ---- patch boxes
 

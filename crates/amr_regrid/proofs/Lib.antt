@@ -1,7 +1,7 @@
 pub mod BlockPlaces
 pub mod CellBlocks
 pub mod Gathered
-pub mod Placed
+pub mod Planned
 pub mod Refilling
 pub mod Standing
 pub mod OutlineLaws
@@ -9,4 +9,5 @@ pub mod ApartBoxes
 pub mod Remaking
 pub mod NewLists
 pub mod Bases
+pub mod MeshOutlines
 pub mod MeshRegrids

@@ -10,7 +10,7 @@ use Rattle.amr_def.specs.declared.problem.Row.{Row}
 use Rattle.amr_def.specs.Cluster.{cluster}
 use Rattle.amr_def.specs.Domain.{refined}
 use Rattle.amr_def.specs.NewBoxes.{first_boxes, new_boxes, wanted_blocks}
-use Rattle.amr_def.specs.Regrid.{first_masses, new_level_count, refill, refilled, regrid, regridded_levels, rest_of}
+use Rattle.amr_def.specs.Regrid.{first_masses, new_level_count, refill, refilled, regrid, regridded_levels, rest_of, regrid_by}
 use Rattle.amr_def.specs.State.{Level, Masses, State}
 use Rattle.amr_def.specs.Tags.{is_tagged}
 
@@ -50,7 +50,7 @@ boxes_more p tagged (suc n) l bs finer some is here =
 -- ---- the state
 
 pub regrid_is : (p : Problem) (s : State) (rows : List Row) (levels : List Level) → rows ≡ s.rows → levels ≡ regridded_levels s.levels (new_boxes p (is_tagged p s) (new_level_count p s) 0) → record { step = s.step; rows = rows; levels = levels } ≡ regrid p s
-unfolding regrid
+unfolding regrid regrid_by
 regrid_is p s rows levels same is = λ i. record { step = s.step; rows = same i; levels = is i }
 
 -- ---- empty lists

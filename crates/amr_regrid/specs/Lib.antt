@@ -1,3 +1,4 @@
 pub mod Blocks
 pub mod Outlines
 pub mod Remade
+pub mod Plans

@@ -1,15 +1,18 @@
--- Levels by their boxes, masses and patch boxes.
-use Rattle.std.specs.Prelude.{◌≡◌, List, [], map}
+-- Levels by their boxes, masses and patch boxes, and meshes by their levels.
+use Rattle.std.specs.Prelude.{◌≡◌, ◌<◌, Bool, false, List, [], length, map}
 use Rattle.std.specs.Global.{Vec}
+use Rattle.std.specs.List.{All}
 use Rattle.amr_box.specs.Cells.{Extent}
 use Rattle.amr_def.specs.declared.problem.Problem.{Problem}
 use Rattle.amr_def.specs.Facts.{IsSound}
 use Rattle.amr_def.specs.NewBoxes.{new_boxes}
 use Rattle.amr_def.specs.Regrid.{new_level_count}
+use Rattle.amr_def.specs.Species.{AreAlike, first_state, is_tagged_in_some}
 use Rattle.amr_def.specs.State as defined
-use Rattle.amr_def.specs.Tags.{is_tagged}
 use Rattle.amr_patch.specs.declared.levels.Level.{Level}
+use Rattle.amr_patch.specs.declared.meshes.Mesh.{Mesh}
 use Rattle.amr_patch.specs.Levels.{level_of, patches_of}
+use Rattle.amr_patch.specs.Meshes.{is_spent, levels_of, state_of}
 use Rattle.amr_patch.specs.Patches.{box}
 
 -- what a level is, and its patch boxes
@@ -36,6 +39,23 @@ pub record IsSoundWith (p : Problem) (ks : List Level) : Type 0 where
 abbrev pub lists_in : List (Vec Extent) → List (List Extent)
 lists_in = map (λ v. v.items)
 
--- the new boxes at a regrid of these levels
-abbrev pub regridded_boxes : Problem → List Level → List (List Extent)
-regridded_boxes p ks = new_boxes p (is_tagged p (with_levels ks)) (new_level_count p (with_levels ks)) 0
+-- ---- meshes
+
+-- what a mesh is, and its patch boxes
+pub record MeshOutline : Type 0 where
+  pub state : defined.State
+  pub levels : List Outline
+  pub spent : Bool
+
+abbrev pub mesh_outline : Mesh → MeshOutline
+mesh_outline m = record { state = state_of m; levels = outlines (levels_of m); spent = is_spent m }
+
+-- one mesh or more, whole, in states that are alike
+pub record AreAlikeMeshes (p : Problem) (ms : List Mesh) : Type 0 where
+  pub some : 0 < length ms
+  pub whole : All (λ m. is_spent m ≡ false) ms
+  pub alike : AreAlike p (map state_of ms)
+
+-- the new boxes at a regrid of states that are alike
+abbrev pub shared_boxes : Problem → List defined.State → List (List Extent)
+shared_boxes p ss = new_boxes p (is_tagged_in_some p ss) (new_level_count p (first_state ss)) 0

@@ -1,5 +1,7 @@
 -- What a regrid makes of levels.
 use Rattle.std.specs.Prelude.{◌≡◌, ◌⊎◌, ℕ, ◌+◌, ◌≤◌, Bool, List, [], ◌∷◌, length, is_some}
+use Rattle.std.specs.declared.option.Option.{Option}
+use Rattle.std.specs.declared.option.Option.TheVariants.{Some}
 use Rattle.amr_box.specs.declared.Cell.{Cell}
 use Rattle.amr_box.specs.Cells.{Extent, in_boxes}
 use Rattle.amr_def.specs.declared.problem.Problem.{Problem}
@@ -21,12 +23,10 @@ remade_levels [] (Made k ∷ more) = k ∷ remade_levels [] more
 remade_levels (old ∷ olds) (Kept ∷ more) = old ∷ remade_levels olds more
 remade_levels (old ∷ olds) (Made k ∷ more) = k ∷ remade_levels olds more
 
--- levels that were made stand in place of those that were there, and the others stay
-unfoldable pub placed : List Level → List Remade → List Level
-placed olds [] = olds
-placed [] (r ∷ more) = []
-placed (old ∷ olds) (Kept ∷ more) = old ∷ placed olds more
-placed (old ∷ olds) (Made k ∷ more) = k ∷ placed olds more
+-- what stands in the place of a level, or of none
+abbrev pub level_there : Option Level → Remade → Option Level
+level_there old Kept = old
+level_there old (Made k) = Some k
 
 -- a level that was made is chopped
 abbrev pub IsChoppedIfMade : ℕ → Remade → Type 0

@@ -1,6 +1,6 @@
 //! Levels with new boxes, and the masses of their cells.
 
-ghost use Rattle.std.specs.Prelude.{◌≡◌, ℕ, ◌≤◌, IfOk, IfSome, IsSome, IsTrue, List, ◌∷◌, drop, length, map};
+ghost use Rattle.std.specs.Prelude.{◌≡◌, ℕ, ◌≤◌, IfOk, IfSome, IsSome, IsTrue, List, ◌∷◌, drop, map};
 ghost use Rattle.std.specs.List.{All, flat_map};
 ghost use Rattle.std.specs.Option.{option_copied};
 ghost use Rattle.amr_box.specs.declared.Cell.{Cell};
@@ -110,7 +110,6 @@ pub(crate) fn refill<S: Sharing>(
     requires filled { All HasMassesInBoxes (map level_of olds.now) }
     ensures levels { IfOk result (λ r. map level_of (remade_levels olds.now r.items)
         ≡ refill (level_of coarse.now).masses (map level_of olds.now) (lists_in boxes.now)) }
-    ensures few { IfOk result (λ r. length r.items ≤ length boxes.now) }
     ensures chopped { IfOk result (λ r. All (IsChoppedIfMade p.now.max_grid_size) r.items) }
 {
     let Some((here, more)) = boxes.split_first() else {

@@ -1,25 +1,30 @@
-//! A mesh regridded.
+//! Meshes regridded.
 
-ghost use Rattle.std.specs.Prelude.{◌≡◌, ℕ, ◌+◌, ◌<◌, ◌≤◌, false, IfOk, OnErr, OnOk, length, map};
-ghost use Rattle.std.specs.List.{All};
+ghost use Rattle.std.specs.Prelude.{◌≡◌, ℕ, ◌+◌, ◌<◌, ◌≤◌, Bool, false, IfOk, OnErr, OnOk, length, map};
+ghost use Rattle.std.specs.List.{All, AllZip};
+ghost use Rattle.amr_box.specs.declared.Cell.{Cell};
 ghost use Rattle.amr_def.specs.Facts.{IsHeld, IsSound};
+ghost use Rattle.amr_def.specs.NewBoxes.{new_boxes};
 ghost use Rattle.amr_def.specs.Regrid.{new_level_count, regrid, regridded_levels};
-ghost use Rattle.amr_def.specs.State.{State};
+ghost use Rattle.amr_def.specs.Species.{AreAlike, regrid_all};
+ghost use Rattle.amr_laws.specs.Species.{AreHeld};
 ghost use Rattle.amr_patch.specs.Levels.{level_of};
 ghost use Rattle.amr_patch.specs.Meshes.{is_spent, levels_of, state_of};
 ghost use Rattle.amr_start.specs.PatchBoxes.{IsChopped};
-ghost use Rattle.amr_regrid.specs.Outlines.{IsSoundWith, lists_in, outlines, regridded_boxes, with_levels};
+ghost use Rattle.amr_regrid.specs.Outlines.{AreAlikeMeshes, IsSoundWith, lists_in, mesh_outline, outlines, shared_boxes, with_levels};
+ghost use Rattle.amr_regrid.specs.Plans.{IsPlanFor};
 ghost use Rattle.amr_regrid.specs.Remade.{AreChoppedOrKept, IsChoppedIfMade, remade_levels};
 
 use crate::boxes::new_boxes;
-use crate::levels::install;
 use crate::masses::{Remade, refill};
+use crate::plans::{Plan, install_all};
 use amr_box::Bx;
 use amr_causes::NoMemory;
 use amr_def::Problem;
 use amr_patch::{Level, Mesh};
 use amr_transfer::{Alone, InThreads, Sharing};
 use std::alloc::Global;
+use std::mem::swap;
 use std::thread::Threads;
 
 /// How many levels get new boxes: one more than there are above level 0, up to the greatest level.
@@ -30,7 +35,17 @@ fn new_level_count(p: &Problem, levels: &[Level]) -> u32
     p.max_level.min(levels.len() as u32)
 }
 
-/// What becomes of the levels, by the new boxes above level 0. Level 0 stays.
+/// The new boxes above level 0. States and patch boxes of the meshes stay.
+fn boxes_above(alloc: Global, p: &Problem, meshes: &mut [Mesh]) -> Result<Vec<Vec<Bx>>, NoMemory>
+    requires { AreAlikeMeshes p.now meshes.old }
+    ensures boxes { IfOk result (λ r. lists_in r.items ≡ shared_boxes p.now (map state_of meshes.old)) }
+    ensures outlines { map mesh_outline meshes.new ≡ map mesh_outline meshes.old }
+{
+    let count = new_level_count(p, meshes[0].levels());
+    new_boxes(alloc, p, meshes, 0, count)
+}
+
+/// What becomes of levels, by the new boxes above level 0. Level 0 stays.
 fn remade<S: Sharing>(
     sharing: &S,
     alloc: Global,
@@ -40,9 +55,8 @@ fn remade<S: Sharing>(
 ) -> Result<Vec<Remade>, NoMemory>
     requires shared { S.may_share sharing.now }
     requires sound { IsSoundWith p.now levels.now }
-    requires boxes { lists_in boxes.now ≡ regridded_boxes p.now levels.now }
+    requires boxes { (tagged : ℕ → Cell → Bool) × (lists_in boxes.now ≡ new_boxes p.now tagged (new_level_count p.now (with_levels levels.now)) 0) }
     ensures levels { IfOk result (λ r. map level_of (remade_levels levels.now r.items) ≡ regridded_levels (map level_of levels.now) (lists_in boxes.now)) }
-    ensures few { IfOk result (λ r. length r.items ≤ length levels.now + 1) }
     ensures chopped { IfOk result (λ r. All (IsChoppedIfMade p.now.max_grid_size) r.items) }
 {
     match levels.split_first() {
@@ -55,41 +69,123 @@ fn remade<S: Sharing>(
     }
 }
 
-/// The new boxes above level 0. Boxes, masses and patch boxes of the levels stay.
-fn boxes_above(
-    alloc: Global,
-    p: &Problem,
-    levels: &mut Vec<Level>,
-) -> Result<Vec<Vec<Bx>>, NoMemory>
-    requires { IsSoundWith p.now levels.old.items }
-    ensures boxes { IfOk result (λ r. lists_in r.items ≡ regridded_boxes p.now levels.old.items) }
-    ensures outlines { outlines levels.new.items ≡ outlines levels.old.items }
-{
-    let count = new_level_count(p, levels.as_slice());
-    new_boxes(alloc, p, levels.as_mut_slice(), 0, count)
-}
-
-/// Regrids the levels of a sound state. After `NoMemory` boxes, masses and patch boxes are as before.
-fn regrid_levels<S: Sharing>(
+/// What the regrid makes of a mesh, with the memory for its list of levels.
+fn plan<S: Sharing>(
     sharing: &S,
     alloc: Global,
     p: &Problem,
-    levels: &mut Vec<Level>,
+    mesh: &Mesh,
+    boxes: &[Vec<Bx>],
+) -> Result<Plan, NoMemory>
+    requires shared { S.may_share sharing.now }
+    requires whole { is_spent mesh.now ≡ false }
+    requires sound { IsSound p.now (state_of mesh.now) }
+    requires boxes { (tagged : ℕ → Cell → Bool) × (lists_in boxes.now ≡ new_boxes p.now tagged (new_level_count p.now (state_of mesh.now)) 0) }
+    ensures { IfOk result (IsPlanFor p.now (lists_in boxes.now) mesh.now) }
+{
+    let remade = remade(sharing, alloc, p, mesh.levels(), boxes)?;
+    let room = Vec::with_capacity(alloc, remade.len())?;
+    Ok(Plan { remade, room })
+}
+
+/// What the regrid makes of each mesh.
+fn plans<S: Sharing>(
+    sharing: &S,
+    alloc: Global,
+    p: &Problem,
+    meshes: &[Mesh],
+    boxes: &[Vec<Bx>],
+) -> Result<Vec<Plan>, NoMemory>
+    requires shared { S.may_share sharing.now }
+    requires meshes { AreAlikeMeshes p.now meshes.now }
+    requires boxes { lists_in boxes.now ≡ shared_boxes p.now (map state_of meshes.now) }
+    ensures { IfOk result (λ r. AllZip (IsPlanFor p.now (lists_in boxes.now)) meshes.now r.items) }
+{
+    let mut plans = Vec::with_capacity(alloc, meshes.len())?;
+    for mesh in meshes {
+        plans.push(plan(sharing, alloc, p, mesh, boxes)?)?;
+    }
+    Ok(plans)
+}
+
+/// Regrids meshes, and has the masses of new levels shared out among threads or not. All memory is taken before the first mesh
+/// changes.
+fn regrid_by<S: Sharing>(
+    sharing: &S,
+    alloc: Global,
+    p: &Problem,
+    meshes: &mut [Mesh],
 ) -> Result<(), NoMemory>
     requires shared { S.may_share sharing.now }
-    requires sound { IsSoundWith p.now levels.old.items }
-    ensures levels { OnOk result (map level_of levels.new.items ≡ regridded_levels (map level_of levels.old.items) (regridded_boxes p.now levels.old.items)) }
-    ensures patches { OnOk result (AreChoppedOrKept p.now.max_grid_size levels.new.items (outlines levels.old.items)) }
-    ensures refused { OnErr result (outlines levels.new.items ≡ outlines levels.old.items) }
+    requires meshes { AreAlikeMeshes p.now meshes.old }
+    ensures value { OnOk result (map state_of meshes.new ≡ regrid_all p.now (map state_of meshes.old)) }
+    ensures alike { OnOk result (AreAlike p.now (map state_of meshes.new)) }
+    ensures held { OnOk result (AreHeld p.now (map state_of meshes.old) (map state_of meshes.new)) }
+    ensures chopped_or_kept { OnOk result (AllZip (λ old new. AreChoppedOrKept p.now.max_grid_size (levels_of new) (outlines (levels_of old)))
+        meshes.old meshes.new) }
+    ensures patches { All (λ m. All (IsChopped p.now.max_grid_size) (levels_of m)) meshes.old
+        → OnOk result (All (λ m. All (IsChopped p.now.max_grid_size) (levels_of m)) meshes.new) }
+    ensures whole { All (λ m. is_spent m ≡ false) meshes.new }
+    ensures refused { OnErr result (map mesh_outline meshes.new ≡ map mesh_outline meshes.old) }
 {
-    let boxes = boxes_above(alloc, p, levels)?;
-    let remade = remade(sharing, alloc, p, levels.as_slice(), boxes.as_slice())?;
-    install(levels, remade)?;
+    let boxes = boxes_above(alloc, p, meshes)?;
+    let plans = plans(sharing, alloc, p, meshes, boxes.as_slice())?;
+    install_all(meshes, plans);
     Ok(())
 }
 
-/// Regrids a mesh, and has the masses of new levels shared out among threads or not.
-fn regrid_by<S: Sharing>(
+/// Regrids meshes of several species, that is, meshes of one step on the same boxes (Berger and Colella 1989). A cell is tagged
+/// where it is for some mesh, so there is one list of new boxes for all, and a cell of a new box keeps the mass that each mesh has
+/// there, or gets its share of its parent's in that mesh. The rest is as [`regrid`] says. For one mesh it is that.
+///
+/// All memory is taken before the first mesh changes. After `NoMemory`, the only refusal, each mesh has its state, boxes and patch
+/// boxes as before; ghost cells may differ.
+pub fn regrid_all(alloc: Global, p: &Problem, meshes: &mut [Mesh]) -> Result<(), NoMemory>
+    requires some { 0 < length meshes.old }
+    requires whole { All (λ m. is_spent m ≡ false) meshes.old }
+    requires alike { AreAlike p.now (map state_of meshes.old) }
+    ensures value { OnOk result (map state_of meshes.new ≡ regrid_all p.now (map state_of meshes.old)) }
+    ensures alike { OnOk result (AreAlike p.now (map state_of meshes.new)) }
+    ensures held { OnOk result (AreHeld p.now (map state_of meshes.old) (map state_of meshes.new)) }
+    ensures chopped_or_kept { OnOk result (AllZip (λ old new. AreChoppedOrKept p.now.max_grid_size (levels_of new) (outlines (levels_of old)))
+        meshes.old meshes.new) }
+    ensures patches { All (λ m. All (IsChopped p.now.max_grid_size) (levels_of m)) meshes.old
+        → OnOk result (All (λ m. All (IsChopped p.now.max_grid_size) (levels_of m)) meshes.new) }
+    ensures whole { All (λ m. is_spent m ≡ false) meshes.new }
+    ensures refused { OnErr result (map state_of meshes.new ≡ map state_of meshes.old) }
+    ensures refused_patches { OnErr result (map (λ m. outlines (levels_of m)) meshes.new ≡ map (λ m. outlines (levels_of m)) meshes.old) }
+{
+    regrid_by(&Alone, alloc, p, meshes)
+}
+
+/// The same, where the masses of the cells of large new levels are shared out among so many threads. For 0 and for 1 none is
+/// made. The outcome is the same for any number.
+pub fn regrid_all_in_threads<R: Threads + Sync>(
+    rt: &R,
+    threads: usize,
+    alloc: Global,
+    p: &Problem,
+    meshes: &mut [Mesh],
+) -> Result<(), NoMemory>
+    requires some { 0 < length meshes.old }
+    requires whole { All (λ m. is_spent m ≡ false) meshes.old }
+    requires alike { AreAlike p.now (map state_of meshes.old) }
+    ensures value { OnOk result (map state_of meshes.new ≡ regrid_all p.now (map state_of meshes.old)) }
+    ensures alike { OnOk result (AreAlike p.now (map state_of meshes.new)) }
+    ensures held { OnOk result (AreHeld p.now (map state_of meshes.old) (map state_of meshes.new)) }
+    ensures chopped_or_kept { OnOk result (AllZip (λ old new. AreChoppedOrKept p.now.max_grid_size (levels_of new) (outlines (levels_of old)))
+        meshes.old meshes.new) }
+    ensures patches { All (λ m. All (IsChopped p.now.max_grid_size) (levels_of m)) meshes.old
+        → OnOk result (All (λ m. All (IsChopped p.now.max_grid_size) (levels_of m)) meshes.new) }
+    ensures whole { All (λ m. is_spent m ≡ false) meshes.new }
+    ensures refused { OnErr result (map state_of meshes.new ≡ map state_of meshes.old) }
+    ensures refused_patches { OnErr result (map (λ m. outlines (levels_of m)) meshes.new ≡ map (λ m. outlines (levels_of m)) meshes.old) }
+{
+    regrid_by(&InThreads::of(rt, threads), alloc, p, meshes)
+}
+
+/// Regrids one mesh: the meshes are it alone.
+fn regrid_one<S: Sharing>(
     sharing: &S,
     alloc: Global,
     p: &Problem,
@@ -107,18 +203,11 @@ fn regrid_by<S: Sharing>(
     ensures refused { OnErr result (state_of mesh.new ≡ state_of mesh.old) }
     ensures refused_patches { OnErr result (outlines (levels_of mesh.new) ≡ outlines (levels_of mesh.old)) }
 {
-    let step = mesh.step();
-    let (rows, mut levels) = mesh.take();
-    match regrid_levels(sharing, alloc, p, &mut levels) {
-        Ok(()) => {
-            *mesh = Mesh::of(step, rows, levels);
-            Ok(())
-        }
-        Err(fault) => {
-            *mesh = Mesh::of(step, rows, levels);
-            Err(fault)
-        }
-    }
+    let mut one = [Mesh::of(0, Vec::new(alloc), Vec::new(alloc))];
+    swap(&mut one[0], mesh);
+    let outcome = regrid_by(sharing, alloc, p, &mut one);
+    swap(&mut one[0], mesh);
+    outcome
 }
 
 /// Regrids a mesh (Berger and Colella 1989). From the finest level that may be refined down to level 0 the tags are
@@ -142,7 +231,7 @@ pub fn regrid(alloc: Global, p: &Problem, mesh: &mut Mesh) -> Result<(), NoMemor
     ensures refused { OnErr result (state_of mesh.new ≡ state_of mesh.old) }
     ensures refused_patches { OnErr result (outlines (levels_of mesh.new) ≡ outlines (levels_of mesh.old)) }
 {
-    regrid_by(&Alone, alloc, p, mesh)
+    regrid_one(&Alone, alloc, p, mesh)
 }
 
 /// The same, where the masses of the cells of large new levels are shared out among so many threads. For 0 and for 1 none is
@@ -165,5 +254,5 @@ pub fn regrid_in_threads<R: Threads + Sync>(
     ensures refused { OnErr result (state_of mesh.new ≡ state_of mesh.old) }
     ensures refused_patches { OnErr result (outlines (levels_of mesh.new) ≡ outlines (levels_of mesh.old)) }
 {
-    regrid_by(&InThreads::of(rt, threads), alloc, p, mesh)
+    regrid_one(&InThreads::of(rt, threads), alloc, p, mesh)
 }

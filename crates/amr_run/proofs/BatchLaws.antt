@@ -9,8 +9,8 @@ use Rattle.amr_batch.specs.declared.answer.Reply.{Reply}
 use Rattle.amr_batch.specs.declared.spans.Span.{Span}
 use Rattle.amr_batch.proofs.OneReading.{has_one_reading}
 use Rattle.amr_def.specs.declared.problem.Problem.{Problem}
-use Rattle.amr_def.specs.Plot.{plot}
-use Rattle.amr_def.specs.Run.{run}
+use Rattle.amr_def.specs.Plot.{plot_all}
+use Rattle.amr_def.specs.Species.{run_all}
 use Rattle.amr_problem.specs.declared.fault.ProblemFault.{ProblemFault}
 use Rattle.amr_problem.specs.Judgement.{IsProblemOf, fault_of}
 use Rattle.amr_problem.proofs.OneProblem.{one_problem}
@@ -28,7 +28,7 @@ same_reply one other code text = λ i. record { code = code i; text = text i }
 pub one_reply : JobsHaveOneReply
 one_reply job one other (inl a) (inl b) =
     let same = one_problem job a.plot.problem b.plot.problem a.plot.accepted b.plot.accepted in
-    same_reply one other (a.done ∙ sym b.done) (a.plot.text ∙ ap (λ (p : Problem). plot p (run p p.steps)) same ∙ sym b.plot.text)
+    same_reply one other (a.done ∙ sym b.done) (a.plot.text ∙ ap (λ (p : Problem). plot_all p (run_all p p.steps)) same ∙ sym b.plot.text)
 one_reply job one other (inl a) (inr b) = absurd (none-some b.fault (sym a.plot.accepted.clean ∙ b.first))
 one_reply job one other (inr a) (inl b) = absurd (none-some a.fault (sym b.plot.accepted.clean ∙ a.first))
 one_reply job one other (inr a) (inr b) =
@@ -50,7 +50,7 @@ one_answer bytes out more a b =
 
 -- ---- a reply
 
-pub plot_reply : (job : List ℕ) (p : Problem) (text : List ℕ) → IsProblemOf job p → text ≡ plot p (run p p.steps) → IsSoundRun p p.steps → IsReplyTo job (record { code = 0; text = text })
+pub plot_reply : (job : List ℕ) (p : Problem) (text : List ℕ) → IsProblemOf job p → text ≡ plot_all p (run_all p p.steps) → IsSoundRun p p.steps → IsReplyTo job (record { code = 0; text = text })
 plot_reply job p text accepted is sound = inl (record { done = refl; plot = record { problem = p; accepted = accepted; text = is; run = sound } })
 
 pub line_reply : (job : List ℕ) (fault : ProblemFault) (code : ℕ) (text : List ℕ) → fault_of job ≡ Some fault → code ≡ 3 → text ≡ message (status.Problem fault) → IsReplyTo job (record { code = code; text = text })

@@ -1,10 +1,10 @@
 -- Why a call ended by a fault, at each exit.
-use Rattle.std.proofs.Common.{◌≡◌, ◌≢◌, ◌⊎◌, inl, inr, ℕ, List, Result, Ok, Err, refl, sym, ap, subst}
+use Rattle.std.proofs.Common.{◌≡◌, ◌≢◌, ◌⊎◌, inl, inr, ℕ, List, Option, Result, Ok, Err, refl, sym, ap, subst}
 use Rattle.std.specs.Prelude.{IsErrAnd}
 use Rattle.amr_causes.specs.Causes.{Rose}
 use Rattle.amr_run.specs.Faults.{Faults, HasCauses}
 use Rattle.amr_run.specs.Outcome.{status_of}
-use Rattle.amr_run.specs.Reading.{Refuses}
+use Rattle.amr_run.specs.Reading.{RefusesBy}
 use Rattle.amr_run.specs.declared.status.Status.{Status}
 use Rattle.amr_run.specs.declared.status.Status.TheVariants as status
 
@@ -46,12 +46,12 @@ caused_by (Ok done) s before after is causes = absurd is
 caused_by (Err x) s before after is causes = subst (λ (t : Status). HasCauses t before after) (sym is) causes
 
 -- of a problem that was not read
-pub unread_causes : (s : Status) (bytes : List ℕ) (before : Faults) (source : ℕ) → Refuses s bytes → (s ≡ status.ReadFault → Rose before.source source) → (s ≢ status.ReadFault → source ≡ before.source)
+pub unread_causes : (judges : List ℕ → Option Status → Type 0) (s : Status) (bytes : List ℕ) (before : Faults) (source : ℕ) → RefusesBy judges s bytes → (s ≡ status.ReadFault → Rose before.source source) → (s ≢ status.ReadFault → source ≡ before.source)
     → HasCauses s before (record before { source = source })
-unread_causes s bytes before source refuses read no_read = record {
+unread_causes judges s bytes before source refuses read no_read = record {
   read_fault = read;
-  disk_fault = λ is. absurd (subst (λ (t : Status). Refuses t bytes) is refuses);
-  write_fault = λ is. absurd (subst (λ (t : Status). Refuses t bytes) is refuses);
+  disk_fault = λ is. absurd (subst (λ (t : Status). RefusesBy judges t bytes) is refuses);
+  write_fault = λ is. absurd (subst (λ (t : Status). RefusesBy judges t bytes) is refuses);
   no_read_fault = no_read;
   no_disk_fault = λ other. refl;
   no_write_fault = λ other. (refl, refl);

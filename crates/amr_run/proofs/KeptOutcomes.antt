@@ -12,7 +12,6 @@ use Rattle.amr_disk.specs.Replay.{rests_same}
 use Rattle.amr_drive.proofs.Finishes.{finish_sound, run_holds}
 use Rattle.amr_drive.proofs.StartLaws.{start-holds_tags}
 use Rattle.amr_laws.proofs.SoundRegrid.{regrid-sound}
-use Rattle.amr_problem.specs.Judgement.{IsProblemOf}
 use Rattle.amr_store.specs.Phases.{OnlyReads}
 use Rattle.amr_checkpoint.specs.declared.faults.KeepFault.{KeepFault}
 use Rattle.amr_checkpoint.specs.declared.faults.KeepFault.TheVariants as fault
@@ -22,7 +21,7 @@ use Rattle.amr_checkpoint.specs.declared.refusal.Refusal.{Refusal}
 use Rattle.amr_checkpoint.specs.declared.resumption.Resumed.{Resumed}
 use Rattle.amr_checkpoint.specs.declared.resumption.Resumed.TheVariants as resumed
 use Rattle.amr_checkpoint.specs.Checkpoints.{CanGoOn, content_resumed}
-use Rattle.amr_checkpoint.specs.Contents.{Content, Holds, state_from}
+use Rattle.amr_checkpoint.specs.Contents.{Content, Holds, IsStorable, state_from}
 use Rattle.amr_checkpoint.specs.Kept.{ErrFailsBy, FailsBy, IsSaid, Keeps, KeptRun, SameUntil, made_of}
 use Rattle.amr_checkpoint.specs.Laws.{IsInSequence}
 use Rattle.amr_checkpoint.specs.Made.{ReadsWith}
@@ -34,10 +33,10 @@ use Rattle.amr_checkpoint.proofs.Progress.{checkpoints_rise}
 use Rattle.amr_cli.specs.declared.command.Command.{Command}
 use Rattle.amr_run.specs.Answer.{IsKeptRun, IsPlotOfKeptRun, WasFound, stop_of}
 use Rattle.amr_run.specs.Kept.{KeptReplies}
-use Rattle.amr_run.specs.Outcome.{BeginsLines, EndsBefore, EndsRun, EndsSettled, RefusesStored, RepliesBy, RunsThrough, StopsBy, StopsKept, StopsRun, StopsTo, status_of}
-use Rattle.amr_run.specs.Reading.{Refuses}
+use Rattle.amr_run.specs.Outcome.{BeginsLines, EndsAtSource, EndsBefore, EndsRun, EndsSettled, RefusesStored, RepliesBy, RunsThrough, StopsBy, StopsKept, StopsRun, StopsTo, status_of}
+use Rattle.amr_run.specs.Reading.{RefusesBy}
 use Rattle.amr_run.specs.Refusals.{keep_refused, resume_refused}
-use Rattle.amr_run.specs.Table.{RefusesRunTo, kept_row, meaning}
+use Rattle.amr_run.specs.Table.{JudgesStorable, RefusesRunTo, kept_row, meaning}
 use Rattle.amr_run.specs.declared.commands.Marks.{Marks}
 use Rattle.amr_run.specs.declared.status.Status.{Status}
 use Rattle.amr_run.specs.declared.status.Status.TheVariants as status
@@ -123,7 +122,7 @@ if_still : (P Q : List ℕ → Type 0) (seen : Option (List ℕ)) → ((image : 
 if_still P Q None still h = tt
 if_still P Q (Some image) still h = still image h
 
-pub plot_of_kept : (given bytes : List ℕ) (to : Option ℕ) (p : Problem) (every target : ℕ) (seen : Option (List ℕ)) (out lines : List ℕ) → given ≡ bytes → target ≡ stop_of to p → IsProblemOf bytes p
+pub plot_of_kept : (given bytes : List ℕ) (to : Option ℕ) (p : Problem) (every target : ℕ) (seen : Option (List ℕ)) (out lines : List ℕ) → given ≡ bytes → target ≡ stop_of to p → IsStorable bytes p
     → IsKeptRun given p every target seen out lines → IsPlotOfKeptRun bytes to every seen out lines
 plot_of_kept given bytes to p every target seen out lines same stops accepted kept = record {
   problem = p;
@@ -131,7 +130,7 @@ plot_of_kept given bytes to p every target seen out lines same stops accepted ke
   kept = subst (λ n. IsKeptRun bytes p every n seen out lines) stops (subst (λ (b : List ℕ). IsKeptRun b p every target seen out lines) same kept);
 }
 
-refuses_to : (given bytes : List ℕ) (to : Option ℕ) (p : Problem) (target : ℕ) (seen : Option (List ℕ)) (refusal : Refusal) → given ≡ bytes → target ≡ stop_of to p → IsProblemOf bytes p
+refuses_to : (given bytes : List ℕ) (to : Option ℕ) (p : Problem) (target : ℕ) (seen : Option (List ℕ)) (refusal : Refusal) → given ≡ bytes → target ≡ stop_of to p → IsStorable bytes p
     → IfSome seen (RefusesStored (RefusesRun given target) refusal) → IfSome seen (RefusesStored (RefusesRunTo to bytes) refusal)
 refuses_to given bytes to p target seen refusal same stops accepted refuses =
     if_still (RefusesStored (RefusesRun given target) refusal) (RefusesStored (RefusesRunTo to bytes) refusal) seen
@@ -141,20 +140,25 @@ refuses_to given bytes to p target seen refusal same stops accepted refuses =
       refused = record { problem = p; accepted = accepted; refuses = subst (λ n. RefusesRun bytes n h.content refusal) stops (subst (λ (b : List ℕ). RefusesRun b target h.content refusal) same h.refused) };
     }) refuses
 
-begun : (given bytes : List ℕ) (to : Option ℕ) (p : Problem) (every target : ℕ) (seen : Option (List ℕ)) (said : List ℕ) → given ≡ bytes → target ≡ stop_of to p → IsProblemOf bytes p
+begun : (given bytes : List ℕ) (to : Option ℕ) (p : Problem) (every target : ℕ) (seen : Option (List ℕ)) (said : List ℕ) → given ≡ bytes → target ≡ stop_of to p → IsStorable bytes p
     → (said ≡ []) ⊎ BeginsLines (IsKeptRun given p every target seen) said → (said ≡ []) ⊎ BeginsLines (IsPlotOfKeptRun bytes to every seen) said
 begun given bytes to p every target seen said same stops accepted (inl none) = inl none
 begun given bytes to p every target seen said same stops accepted (inr h) =
     inr record { whole = h.whole; lines = h.lines; answer = plot_of_kept given bytes to p every target seen h.whole h.lines same stops accepted h.answer; prefix = h.prefix }
 
-pub kept_replies : (s : Status) (given bytes : List ℕ) (marked : Marks) (p : Problem) (target : ℕ) (seen : Option (List ℕ)) (said : List ℕ) → given ≡ bytes → target ≡ stop_of marked.to p → IsProblemOf bytes p
+storable : (bytes : List ℕ) (p : Problem) → IsStorable bytes p → JudgesStorable bytes None
+storable bytes p is = record { problem = p; accepted = is.accepted; has = is.alone }
+
+pub kept_replies : (s : Status) (given bytes : List ℕ) (marked : Marks) (p : Problem) (target : ℕ) (seen : Option (List ℕ)) (said : List ℕ) → given ≡ bytes → target ≡ stop_of marked.to p → IsStorable bytes p
     → KeptReplies (Err s) given p marked.every target seen said → RepliesBy (kept_row marked) s bytes seen [] said
 kept_replies status.Done given bytes marked p target seen said same stops accepted h = plot_of_kept given bytes marked.to p marked.every target seen [] said same stops accepted h
 kept_replies (status.Problem reason) given bytes marked p target seen said same stops accepted h = absurd h.0
 kept_replies (status.BadBatch place) given bytes marked p target seen said same stops accepted h = absurd h.0
+kept_replies (status.Species k) given bytes marked p target seen said same stops accepted h = absurd h.0
+kept_replies (status.BadView outside) given bytes marked p target seen said same stops accepted h = absurd h.0
 kept_replies status.ReadFault given bytes marked p target seen said same stops accepted h = absurd h.0
-kept_replies (status.Store refusal) given bytes marked p target seen said same stops accepted h = ((tt, accepted.clean, refuses_to given bytes marked.to p target seen refusal same stops accepted h.0), h.1, h.2)
-kept_replies status.DiskFault given bytes marked p target seen said same stops accepted h = ((tt, accepted.clean), h.1, begun given bytes marked.to p marked.every target seen said same stops accepted h.2)
+kept_replies (status.Store refusal) given bytes marked p target seen said same stops accepted h = ((tt, storable bytes p accepted, refuses_to given bytes marked.to p target seen refusal same stops accepted h.0), h.1, h.2)
+kept_replies status.DiskFault given bytes marked p target seen said same stops accepted h = ((tt, storable bytes p accepted), h.1, begun given bytes marked.to p marked.every target seen said same stops accepted h.2)
 kept_replies status.NoMemory given bytes marked p target seen said same stops accepted h = (h.0, begun given bytes marked.to p marked.every target seen said same stops accepted h.1)
 kept_replies status.WriteFault given bytes marked p target seen said same stops accepted h =
     record { whole = h.whole; lines = h.lines; answer = plot_of_kept given bytes marked.to p marked.every target seen h.whole h.lines same stops accepted h.answer; cut = h.cut }
@@ -210,7 +214,7 @@ module _ {D : Type 0} (seen : D → Option (List ℕ)) (moment : D → ℕ) (lea
       }
 
   -- of the problem that the source gave
-  pub stops_run : (d later_d : D) (was status : Status) (given bytes : List ℕ) (marked : Marks) (p : Problem) (target : ℕ) (said : List ℕ) → given ≡ bytes → target ≡ stop_of marked.to p → IsProblemOf bytes p
+  pub stops_run : (d later_d : D) (was status : Status) (given bytes : List ℕ) (marked : Marks) (p : Problem) (target : ℕ) (said : List ℕ) → given ≡ bytes → target ≡ stop_of marked.to p → IsStorable bytes p
       → StopsKept seen moment leaves d later_d was (record { bytes = given; problem = p; every = marked.every; target = target; deltas = marked.deltas }) said → (EndsBefore was → EndsBefore status)
       → ((ended : Option KeepFault) → EndsRun ended was → EndsRun ended status) → StopsRun seen moment leaves d later_d status marked bytes said
   stops_run d later_d was status given bytes marked p target said same stops accepted h before still image told = elim (h image told) [
@@ -256,37 +260,54 @@ module _ {D : Type 0} (seen : D → Option (List ℕ)) (moment : D → ℕ) (lea
   settles d later_d status.ReadFault only = tt
   settles d later_d (status.Problem reason) only = tt
   settles d later_d (status.BadBatch place) only = tt
+  settles d later_d (status.Species k) only = tt
+  settles d later_d (status.BadView outside) only = tt
 
   -- a disk that was not called, as its problem was not read
-  pub settles_unread : (d : D) (s : Status) (bytes : List ℕ) → Refuses s bytes → EndsSettled seen moment leaves d d s
-  settles_unread d status.Done bytes h = absurd h
-  settles_unread d (status.Store refusal) bytes h = absurd h
-  settles_unread d status.WriteFault bytes h = absurd h
-  settles_unread d status.NoMemory bytes h = inl refl
-  settles_unread d status.DiskFault bytes h = tt
-  settles_unread d status.Usage bytes h = tt
-  settles_unread d status.ReadFault bytes h = tt
-  settles_unread d (status.Problem reason) bytes h = tt
-  settles_unread d (status.BadBatch place) bytes h = tt
+  pub settles_unread : (judges : List ℕ → Option Status → Type 0) (d : D) (s : Status) (bytes : List ℕ) → RefusesBy judges s bytes → EndsSettled seen moment leaves d d s
+  settles_unread judges d status.Done bytes h = absurd h
+  settles_unread judges d (status.Store refusal) bytes h = absurd h
+  settles_unread judges d status.WriteFault bytes h = absurd h
+  settles_unread judges d status.NoMemory bytes h = inl refl
+  settles_unread judges d status.DiskFault bytes h = tt
+  settles_unread judges d status.Usage bytes h = tt
+  settles_unread judges d status.ReadFault bytes h = tt
+  settles_unread judges d (status.Problem reason) bytes h = tt
+  settles_unread judges d (status.BadBatch place) bytes h = tt
+  settles_unread judges d (status.Species k) bytes h = tt
+  settles_unread judges d (status.BadView outside) bytes h = tt
 
   -- by the status that an error became
   pub settles_by : (d later_d : D) (r : Result Unit Status) (s : Status) → IsErrAnd r (λ x. x ≡ s) → EndsSettled seen moment leaves d later_d s → EndsSettled seen moment leaves d later_d (status_of r)
   settles_by d later_d (Ok done) s is settled = absurd is
   settles_by d later_d (Err x) s is settled = subst (λ (t : Status). EndsSettled seen moment leaves d later_d t) (sym is) settled
 
-pub unread_before : (s : Status) (bytes : List ℕ) → Refuses s bytes → EndsBefore s
-unread_before status.Done bytes h = absurd h
-unread_before (status.Store refusal) bytes h = tt
-unread_before status.WriteFault bytes h = absurd h
-unread_before status.NoMemory bytes h = tt
-unread_before status.DiskFault bytes h = tt
-unread_before status.Usage bytes h = tt
-unread_before status.ReadFault bytes h = tt
-unread_before (status.Problem reason) bytes h = tt
-unread_before (status.BadBatch place) bytes h = tt
+pub unread_before : (judges : List ℕ → Option Status → Type 0) (s : Status) (bytes : List ℕ) → RefusesBy judges s bytes → EndsBefore s
+unread_before judges status.Done bytes h = absurd h
+unread_before judges (status.Store refusal) bytes h = tt
+unread_before judges status.WriteFault bytes h = absurd h
+unread_before judges status.NoMemory bytes h = tt
+unread_before judges status.DiskFault bytes h = tt
+unread_before judges status.Usage bytes h = tt
+unread_before judges status.ReadFault bytes h = tt
+unread_before judges (status.Problem reason) bytes h = tt
+unread_before judges (status.BadBatch place) bytes h = tt
+unread_before judges (status.Species k) bytes h = tt
+unread_before judges (status.BadView outside) bytes h = tt
 
 -- a store that was not gone on with
 pub unresumed_before : (e : ResumeFault) → EndsBefore (resume_refused e)
 unresumed_before resuming.DiskFault = tt
 unresumed_before (resuming.Refused refusal) = tt
 unresumed_before resuming.NoMemory = tt
+
+-- what refuses a run that was begun is not of its source
+pub resumed_at_source : (e : ResumeFault) → EndsAtSource (resume_refused e) → ⊥
+resumed_at_source resuming.DiskFault ends = ends
+resumed_at_source (resuming.Refused refusal) ends = ends
+resumed_at_source resuming.NoMemory ends = ends
+
+pub kept_at_source : (e : KeepFault) → EndsAtSource (keep_refused e) → ⊥
+kept_at_source fault.DiskFault ends = ends
+kept_at_source fault.WriteFault ends = ends
+kept_at_source fault.NoMemory ends = ends

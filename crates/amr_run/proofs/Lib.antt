@@ -1,4 +1,6 @@
 pub mod BatchLaws
+pub mod SoundRuns
+pub mod Seen
 pub mod Outcomes
 pub mod StoreOutcomes
 pub mod RunStates

@@ -55,6 +55,12 @@ blocking_line axis z sign name size sign_is size_is name_is =
     ap (λ (t : List ℕ). line (codes "amr: problem: blocking " ++ t)) (sign_and_digits sign size z _ sign_is size_is)
     ∙ ap (λ (n : List ℕ). line (codes "amr: problem: blocking " ++ (signed_decimal z ++ (codes " does not fit " ++ (n ++ []))))) name_is
 
+pub species_line : (index number : ℕ) (z : ℤ) (sign : List ℕ) (size : ℕ) → number ≡ index → sign ≡ sign_text z → size ≡ unsigned_abs z
+    → line (codes "amr: problem: block " ++ (decimal number ++ (codes " of species " ++ (sign ++ (decimal size ++ []))))) ≡ refusal (fault_text (problem.SpeciesOutside index z))
+species_line index number z sign size number_is sign_is size_is =
+    ap (λ (n : ℕ). line (codes "amr: problem: block " ++ (decimal n ++ (codes " of species " ++ (sign ++ (decimal size ++ [])))))) number_is
+    ∙ ap (λ (t : List ℕ). line (codes "amr: problem: block " ++ (decimal index ++ (codes " of species " ++ t)))) (sign_and_digits sign size z [] sign_is size_is)
+
 -- the line of a fault that is this one
 pub refusal_of : (fault same : ProblemFault) → fault ≡ same → refusal (fault_text same) ≡ refusal (fault_text fault)
 refusal_of fault same is = ap (λ (f : ProblemFault). refusal (fault_text f)) (sym is)

@@ -1,5 +1,5 @@
 -- The outcome at each exit, by what the layers below say of it.
-use Rattle.std.proofs.Common.{◌≡◌, ◌≢◌, ◌≤◌, ◌<◌, ◌^◌, ◌⊎◌, inl, inr, ⊎_elim, IfErr, IfSome, ℕ, ◌+◌, List, [], ◌++◌, length, Option, Some, None, Result, Ok, Err, OnErr, refl, sym, ◌∙◌, ap, subst, arith, length-append, OnOk}
+use Rattle.std.proofs.Common.{◌≡◌, ◌≢◌, ◌≤◌, ◌<◌, ◌^◌, ◌⊎◌, inl, inr, ⊎_elim, IfErr, IfSome, ℕ, ◌+◌, List, [], ◌++◌, length, get_or, Option, Some, None, Result, Ok, Err, OnErr, refl, sym, ◌∙◌, ap, subst, arith, length-append, OnOk}
 use Rattle.std.proofs.lemmas.List.{append-nil}
 use Rattle.std.proofs.lemmas.Option.{none-some, same_Some}
 use Rattle.std.specs.Prelude.{IsErrAnd}
@@ -11,33 +11,37 @@ use Rattle.amr_causes.proofs.ByteLaws.{consumes_none, prefix_whole, were_left}
 use Rattle.amr_batch.proofs.OneReading.{is_one_or_the_other}
 use Rattle.amr_def.specs.declared.problem.Problem.{Problem}
 use Rattle.amr_def.specs.State.{State}
-use Rattle.amr_def.specs.Run.{start, finish, run}
-use Rattle.amr_def.specs.Plot.{plot}
-use Rattle.amr_def.specs.Facts.{IsSound}
+use Rattle.amr_def.specs.Plot.{plot_all}
+use Rattle.amr_def.specs.Species.{no_state, run_all}
+use Rattle.amr_def.specs.View.{view}
 use Rattle.amr_io.specs.declared.source.ReadAll.{ReadAll}
 use Rattle.amr_io.specs.declared.source.ReadAll.TheVariants as reading
 use Rattle.amr_problem.specs.declared.fault.JudgeFault.{JudgeFault}
 use Rattle.amr_problem.specs.declared.fault.JudgeFault.TheVariants as judging
 use Rattle.amr_problem.specs.declared.fault.ProblemFault.{ProblemFault}
 use Rattle.amr_problem.specs.Judgement.{fault_of, IsProblemOf}
-use Rattle.amr_drive.specs.Regrids.{RunHoldsTags, StartHoldsTags}
+use Rattle.amr_box.specs.Cells.{Extent}
+use Rattle.amr_laws.proofs.FlockOfOne.{run_of_one}
+use Rattle.amr_problem.proofs.OneProblem.{one_problem}
 use Rattle.amr_cli.specs.declared.command.Command.{Command}
-use Rattle.amr_cli.specs.declared.command.Command.TheVariants.{Run, Check, Show, Trial, Batch}
+use Rattle.amr_cli.specs.declared.command.Command.TheVariants.{Run, Check, Show, Trial, Batch, View}
+use Rattle.amr_cli.specs.declared.command.ViewOptions.{ViewOptions}
 use Rattle.amr_trial.specs.Summary.{summary}
 use Rattle.amr_trial.specs.Trial.{IsSize, text}
-use Rattle.amr_trial.proofs.Problems.{sixteen_steps}
+use Rattle.amr_trial.proofs.Problems.{one_species, sixteen_steps}
 use Rattle.amr_trial.proofs.Accepted.{no_fault}
 use Rattle.amr_checkpoint.specs.declared.refusal.Refusal.{Refusal}
 use Rattle.amr_checkpoint.specs.Contents.{Content, Holds}
-use Rattle.amr_checkpoint.proofs.Stepping.{start_step}
-use Rattle.amr_run.specs.Answer.{IsLineOfProblem, IsLineOfTrial, IsPlotOfRun, IsSoundRun, stop_of}
-use Rattle.amr_run.specs.Outcome.{EndsByLine, Outcome, RefusesStored, RepliesBy, RepliesTo, status_of}
+use Rattle.amr_run.specs.Answer.{IsLineOfProblem, IsLineOfTrial, IsPlotOfRun, IsSoundRun, IsViewOfRun, stop_of}
+use Rattle.amr_run.specs.Outcome.{EndsAtSource, EndsByLine, Outcome, RefusesStored, RepliesBy, RepliesTo, status_of}
 use Rattle.amr_run.specs.Reading.{ReadsBy, RefusesBy, TakesAtMost}
-use Rattle.amr_run.specs.Table.{HasAnswer, IsGiven, JudgesBatch, JudgesProblem, Meaning, TellsAccepted, meaning, run_meaning, trial_row}
+use Rattle.amr_run.specs.Table.{HasAnswer, IsGiven, JudgesBatch, JudgesProblem, JudgesStorable, JudgesView, Meaning, TellsAccepted, meaning, run_meaning, trial_row, view_row}
 use Rattle.amr_run.specs.Refusals.{judge_refused, read_refused}
 use Rattle.amr_run.specs.Texts.{message, problem_line}
+use Rattle.amr_run.specs.Views.{bad_view, box_of}
 use Rattle.amr_run.specs.declared.status.Status.{Status}
 use Rattle.amr_run.specs.declared.status.Status.TheVariants as status
+use Rattle.amr_run.specs.declared.views.ViewPart.{ViewPart}
 
 -- ---- the bytes that a source had left
 
@@ -70,12 +74,28 @@ pub reads_refused : {T : Type 0} (judges : List ℕ → Option Status → Type 0
 reads_refused judges is (Ok given) s bytes by refuses = absurd by
 reads_refused judges is (Err x) s bytes by refuses = subst (λ (t : Status). RefusesBy judges t bytes) (sym by) refuses
 
+-- where more is judged of the problem
+pub refused_first : (judges : List ℕ → Option Status → Type 0) (s : Status) (bytes : List ℕ) → ((fault : ProblemFault) → fault_of bytes ≡ Some fault → judges bytes (Some (status.Problem fault))) → RefusesBy JudgesProblem s bytes → RefusesBy judges s bytes
+refused_first judges (status.Problem fault) bytes first refuses = first fault refuses
+refused_first judges (status.BadBatch place) bytes first refuses = absurd refuses
+refused_first judges (status.Species k) bytes first refuses = absurd refuses
+refused_first judges (status.BadView outside) bytes first refuses = absurd refuses
+refused_first judges status.ReadFault bytes first refuses = tt
+refused_first judges status.NoMemory bytes first refuses = tt
+refused_first judges status.Done bytes first refuses = absurd refuses
+refused_first judges status.Usage bytes first refuses = absurd refuses
+refused_first judges status.WriteFault bytes first refuses = absurd refuses
+refused_first judges status.DiskFault bytes first refuses = absurd refuses
+refused_first judges (status.Store reason) bytes first refuses = absurd refuses
+
 -- ---- exits of a command
 
 -- where its bytes were not read, nothing went out
 pub unread : (row : Meaning) (s : Status) (bytes : List ℕ) (seen : Option (List ℕ)) → IsGiven row.reads → RefusesBy row.judges s bytes → RepliesBy row s bytes seen [] []
 unread row (status.Problem fault) bytes seen reads refuses = (refuses, refl, refl)
 unread row (status.BadBatch place) bytes seen reads refuses = (refuses, refl, refl)
+unread row (status.Species k) bytes seen reads refuses = (refuses, refl, refl)
+unread row (status.BadView outside) bytes seen reads refuses = (refuses, refl, refl)
 unread row status.ReadFault bytes seen reads refuses = (reads, refl, refl)
 unread row status.NoMemory bytes seen reads refuses = (refl, inl refl)
 unread row status.Done bytes seen reads refuses = absurd refuses
@@ -108,6 +128,11 @@ never_disk_fault row r bytes seen out said closed replies is =
     let faulted : RepliesBy row status.DiskFault bytes seen out said = subst (λ (t : Result Unit Status). RepliesBy row (status_of t) bytes seen out said) is replies in
     closed faulted.0.0
 
+-- by the status that an error became
+pub at_source : (r : Result Unit Status) (s : Status) → IsErrAnd r (λ x. x ≡ s) → EndsAtSource (status_of r) → EndsAtSource s
+at_source (Ok done) s is ends = absurd is
+at_source (Err x) s is ends = subst EndsAtSource is ends
+
 -- of the command that the words are
 pub of_command : (status : Status) (asked : Option Command) (command : Command) (bytes : List ℕ) (seen : Option (List ℕ)) (out said : List ℕ) → asked ≡ Some command → RepliesTo status command bytes seen out said → Outcome status asked bytes seen out said
 of_command status asked command bytes seen out said is replies = subst (λ (o : Option Command). Outcome status o bytes seen out said) (sym is) replies
@@ -124,33 +149,36 @@ takes_none left (Some most) = ([], consumes_none left, omega arith)
 
 -- ---- the answer
 
-pub starts_at : (p : Problem) (first : State) (k : ℕ) → first ≡ start p → first.step ≤ k
-starts_at p first k starts = let at : first.step ≡ 0 = ap (λ (s : State). s.step) starts ∙ start_step p in omega (arith, at)
-
--- a run from its start
-pub run_is : (p : Problem) (first last : State) (k : ℕ) → first ≡ start p → last ≡ finish p first k → last ≡ run p k
-unfolding run
-run_is p first last k starts ends = ends ∙ ap (λ (s : State). finish p s k) starts
-
-pub is_sound_run : (p : Problem) (first last : State) (k : ℕ) → first ≡ start p → last ≡ finish p first k → IsSound p last → StartHoldsTags p → RunHoldsTags p first k → IsSoundRun p k
-is_sound_run p first last k starts ends sound start_held held = record {
-  sound = subst (λ (s : State). IsSound p s) (run_is p first last k starts ends) sound;
-  start_held = start_held;
-  held = subst (λ (s : State). RunHoldsTags p s k) starts held;
-}
-
 -- within the problem's steps
 pub stops_within : (to : Option ℕ) (p : Problem) (k : ℕ) → k ≡ stop_of to p → k ≤ p.steps
 stops_within None p k is = omega (arith, is)
 stops_within (Some n) p k is = omega (arith, is)
 
 -- the plot of the state that a run stops at
-pub is_plot_of_run : (bytes : List ℕ) (to : Option ℕ) (p : Problem) (last : State) (k : ℕ) → IsProblemOf bytes p → k ≡ stop_of to p → last ≡ run p k → IsSoundRun p k → IsPlotOfRun bytes to (plot p last)
+pub is_plot_of_run : (bytes : List ℕ) (to : Option ℕ) (p : Problem) (last : List State) (k : ℕ) → IsProblemOf bytes p → k ≡ stop_of to p → last ≡ run_all p k → IsSoundRun p k → IsPlotOfRun bytes to (plot_all p last)
 is_plot_of_run bytes to p last k accepted stops is sound = record {
   problem = p;
   accepted = accepted;
-  text = ap (λ (s : State). plot p s) (is ∙ ap (run p) stops);
+  text = ap (λ (ss : List State). plot_all p ss) (is ∙ ap (run_all p) stops);
   run = subst (λ n. IsSoundRun p n) stops sound;
+}
+
+-- ---- a view
+
+-- of no box, where a part of it is outside
+pub unseen : (asked : ViewOptions) (r : Result Unit Status) (bytes : List ℕ) (seen : Option (List ℕ)) (p : Problem) (outside : ViewPart) → IsErrAnd r (λ x. x ≡ status.BadView outside) → IsProblemOf bytes p → bad_view asked p ≡ Some outside
+    → RepliesBy (view_row asked) (status_of r) bytes seen [] []
+unseen asked r bytes seen p outside is accepted bad = refused_by (view_row asked) r (status.BadView outside) bytes seen [] [] is (record { problem = p; accepted = accepted; has = bad }, refl, refl)
+
+-- of the state of a species
+pub is_view_of_run : (bytes : List ℕ) (asked : ViewOptions) (p : Problem) (last : List State) (s : State) (b : Extent) → IsProblemOf bytes p → bad_view asked p ≡ None → b ≡ box_of asked.corners → last ≡ run_all p p.steps
+    → s ≡ get_or last asked.species no_state → IsSoundRun p p.steps → IsViewOfRun bytes asked (view s asked.level b)
+is_view_of_run bytes asked p last s b accepted inside box is of_species sound = record {
+  problem = p;
+  accepted = accepted;
+  inside = inside;
+  text = ap (λ (t : State). view t asked.level b) (of_species ∙ ap (λ (ss : List State). get_or ss asked.species no_state) is) ∙ ap (view (get_or (run_all p p.steps) asked.species no_state) asked.level) box;
+  run = sound;
 }
 
 -- ---- a trial
@@ -162,13 +190,16 @@ trial_unread number size bytes judging.NoMemory given seen small is same fault =
 pub trial_steps : (number size : ℕ) (bytes : List ℕ) (p : Problem) → number < 2 ^ 32 → IsSize size → bytes ≡ text number size → IsProblemOf bytes p → p.steps ≡ 16
 trial_steps number size bytes p small is same accepted = sixteen_steps number size p small is (subst (λ (bs : List ℕ). IsProblemOf bs p) same accepted)
 
-pub is_line_of_trial : (number size : ℕ) (bytes line : List ℕ) (p : Problem) (last : State) → bytes ≡ text number size → IsProblemOf bytes p → last ≡ run p 16 → IsSoundRun p 16 → line ≡ summary number size p last → IsLineOfTrial number size line
-is_line_of_trial number size bytes line p last same accepted is sound said = record {
-  problem = p;
-  accepted = subst (λ (bs : List ℕ). IsProblemOf bs p) same accepted;
-  line = said ∙ ap (λ (s : State). summary number size p s) is;
-  run = sound;
-}
+pub is_line_of_trial : (number size : ℕ) (bytes line : List ℕ) (p : Problem) (last : List State) (s : State) → number < 2 ^ 32 → IsSize size → bytes ≡ text number size → IsProblemOf bytes p → last ≡ run_all p 16 → s ≡ get_or last 0 no_state
+    → IsSoundRun p 16 → line ≡ summary number size p s → IsLineOfTrial number size line
+is_line_of_trial number size bytes line p last s small is_size same accepted is first sound said =
+    let given : IsProblemOf (text number size) p = subst (λ (bs : List ℕ). IsProblemOf bs p) same accepted in
+    record {
+      problem = p;
+      accepted = given;
+      line = said ∙ ap (λ (t : State). summary number size p t) (first ∙ ap (λ (ss : List State). get_or ss 0 no_state) (is ∙ run_of_one p (one_species number size p small is_size given) 16));
+      run = sound;
+    }
 
 -- ---- a problem's line
 
@@ -185,13 +216,28 @@ problem_once : (bytes : List ℕ) (s : Status) → JudgesProblem bytes None → 
 problem_once bytes (status.Problem reason) none some = absurd (none-some reason (sym none ∙ some))
 problem_once bytes _ none some = some
 
+storable_once : (bytes : List ℕ) (s : Status) → JudgesStorable bytes None → JudgesStorable bytes (Some s) → ⊥
+storable_once bytes (status.Problem reason) one some = absurd (none-some reason (sym one.accepted.clean ∙ some))
+storable_once bytes (status.Species k) one some =
+    let same : one.problem ≡ some.problem = one_problem bytes one.problem some.problem one.accepted some.accepted in
+    let is : some.problem.species ≡ 1 = subst (λ (p : Problem). p.species ≡ 1) same one.has in
+    absurd (omega (arith, is, some.has.0, some.has.1))
+storable_once bytes _ one some = some
+
+view_once : (asked : ViewOptions) (bytes : List ℕ) (s : Status) → JudgesView asked bytes None → JudgesView asked bytes (Some s) → ⊥
+view_once asked bytes (status.Problem reason) one some = absurd (none-some reason (sym one.accepted.clean ∙ some))
+view_once asked bytes (status.BadView outside) one some =
+    let same : one.problem ≡ some.problem = one_problem bytes one.problem some.problem one.accepted some.accepted in
+    absurd (none-some outside (sym one.has ∙ ap (bad_view asked) same ∙ some.has))
+view_once asked bytes _ one some = some
+
 batch_once : (bytes : List ℕ) (s : Status) → JudgesBatch bytes None → JudgesBatch bytes (Some s) → ⊥
 batch_once bytes (status.BadBatch place) is malformed = is_one_or_the_other bytes is.0 place is.1 malformed
 batch_once bytes _ is malformed = malformed
 
 run_once : (to keep deltas : Option ℕ) (bytes : List ℕ) (s : Status) → (run_meaning to keep deltas).judges bytes None → (run_meaning to keep deltas).judges bytes (Some s) → ⊥
 run_once to None deltas bytes s none some = problem_once bytes s none some
-run_once to (Some every) deltas bytes s none some = problem_once bytes s none some
+run_once to (Some every) deltas bytes s none some = storable_once bytes s none some
 
 judged_once : (command : Command) (bytes : List ℕ) (s : Status) → (meaning command).judges bytes None → (meaning command).judges bytes (Some s) → ⊥
 judged_once (Run options) bytes s none some = run_once options.to options.keep options.deltas bytes s none some
@@ -199,6 +245,7 @@ judged_once Check bytes s none some = problem_once bytes s none some
 judged_once Show bytes s none some = some
 judged_once (Trial number size workers) bytes s none some = some
 judged_once (Batch workers) bytes s none some = batch_once bytes s none some
+judged_once (View asked) bytes s none some = view_once asked bytes s none some
 
 completed : (s : Status) (command : Command) (bytes : List ℕ) (seen : Option (List ℕ)) (out said : List ℕ) → HasAnswer command bytes seen → RepliesTo s command bytes seen out said
     → (s ≡ status.ReadFault → ⊥) → (s ≡ status.WriteFault → ⊥) → (s ≡ status.DiskFault → ⊥) → (s ≡ status.Done) ⊎ (s ≡ status.NoMemory)
@@ -210,6 +257,8 @@ completed status.DiskFault command bytes seen out said has h read write disk = a
 completed status.Usage command bytes seen out said has h read write disk = absurd h
 completed (status.Problem reason) command bytes seen out said has h read write disk = absurd (judged_once command bytes (status.Problem reason) has.taken h.0)
 completed (status.BadBatch place) command bytes seen out said has h read write disk = absurd (judged_once command bytes (status.BadBatch place) has.taken h.0)
+completed (status.Species k) command bytes seen out said has h read write disk = absurd (judged_once command bytes (status.Species k) has.taken h.0)
+completed (status.BadView outside) command bytes seen out said has h read write disk = absurd (judged_once command bytes (status.BadView outside) has.taken h.0)
 completed (status.Store refusal) command bytes seen out said has h read write disk = absurd (clash ((meaning command).refuses bytes) seen refusal (has.stored h.0.0) h.0.2)
 
 pub is_complete : (s : Status) (asked : Option Command) (command : Command) (bytes : List ℕ) (seen : Option (List ℕ)) (out said : List ℕ) → asked ≡ Some command → HasAnswer command bytes seen → Outcome s asked bytes seen out said
@@ -226,6 +275,8 @@ err_before status.Usage P old now other write = inl (other (λ is. cc))
 err_before status.ReadFault P old now other write = inl (other (λ is. cc))
 err_before (status.Problem reason) P old now other write = inl (other (λ is. cc))
 err_before (status.BadBatch place) P old now other write = inl (other (λ is. cc))
+err_before (status.Species k) P old now other write = inl (other (λ is. cc))
+err_before (status.BadView outside) P old now other write = inl (other (λ is. cc))
 err_before status.DiskFault P old now other write = inl (other (λ is. cc))
 err_before (status.Store refusal) P old now other write = inl (other (λ is. cc))
 err_before status.NoMemory P old now other write = inl (other (λ is. cc))

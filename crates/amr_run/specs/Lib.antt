@@ -2,6 +2,8 @@ pub mod Texts
 pub mod Batch
 pub mod Laws
 pub mod Reading
+pub mod Regrids
+pub mod Views
 pub mod Answer
 pub mod Table
 pub mod Outcome

@@ -4,9 +4,8 @@ use Rattle.amr_causes.specs.Bytes.{IsPrefix}
 use Rattle.amr_causes.specs.Causes.{Rose}
 use Rattle.amr_io.specs.Short.{IsProperPrefix}
 use Rattle.amr_def.specs.declared.problem.Problem.{Problem}
-use Rattle.amr_problem.specs.Judgement.{IsProblemOf}
 use Rattle.amr_checkpoint.specs.declared.refusal.Refusal.{Refusal}
-use Rattle.amr_checkpoint.specs.Contents.{Content, Holds}
+use Rattle.amr_checkpoint.specs.Contents.{Content, Holds, IsStorable}
 use Rattle.amr_checkpoint.specs.declared.faults.KeepFault.{KeepFault}
 use Rattle.amr_checkpoint.specs.Kept.{History, KeptRun, made_of}
 use Rattle.amr_checkpoint.specs.Refusals.{GoesOn}
@@ -22,7 +21,7 @@ use Rattle.amr_run.specs.Texts.{message}
 use Rattle.amr_cli.specs.declared.command.Command.{Command}
 use Rattle.amr_run.specs.declared.commands.Marks.{Marks}
 use Rattle.amr_run.specs.declared.status.Status.{Status}
-use Rattle.amr_run.specs.declared.status.Status.TheVariants.{Done, Usage, ReadFault, Problem as BadProblem, BadBatch, DiskFault, Store, WriteFault, NoMemory}
+use Rattle.amr_run.specs.declared.status.Status.TheVariants.{Done, Usage, ReadFault, Problem as BadProblem, BadBatch, Species, BadView, DiskFault, Store, WriteFault, NoMemory}
 
 -- how a command ended: with its answer, or with the status that refuses it
 abbrev pub status_of : {T : Type 0} → Result T Status → Status
@@ -56,6 +55,8 @@ Replies Usage answers refuses out said = ⊥
 Replies ReadFault answers refuses out said = refuses ReadFault × (out ≡ []) × (said ≡ [])
 Replies (BadProblem fault) answers refuses out said = refuses (BadProblem fault) × (out ≡ []) × (said ≡ [])
 Replies (BadBatch place) answers refuses out said = refuses (BadBatch place) × (out ≡ []) × (said ≡ [])
+Replies (Species k) answers refuses out said = refuses (Species k) × (out ≡ []) × (said ≡ [])
+Replies (BadView part) answers refuses out said = refuses (BadView part) × (out ≡ []) × (said ≡ [])
 Replies DiskFault answers refuses out said = refuses DiskFault × (out ≡ []) × ((said ≡ []) ⊎ BeginsLines answers said)
 Replies (Store refusal) answers refuses out said = refuses (Store refusal) × (out ≡ []) × (said ≡ [])
 Replies WriteFault answers refuses out said = IsCutShort answers out said
@@ -75,6 +76,8 @@ abbrev pub RefusedBy : Meaning → List ℕ → Option (List ℕ) → Status →
 RefusedBy row bytes seen ReadFault = IsGiven row.reads
 RefusedBy row bytes seen (BadProblem fault) = row.judges bytes (Some (BadProblem fault))
 RefusedBy row bytes seen (BadBatch place) = row.judges bytes (Some (BadBatch place))
+RefusedBy row bytes seen (Species k) = row.judges bytes (Some (Species k))
+RefusedBy row bytes seen (BadView part) = row.judges bytes (Some (BadView part))
 RefusedBy row bytes seen DiskFault = row.opens × row.judges bytes None
 RefusedBy row bytes seen (Store refusal) = row.opens × row.judges bytes None × IfSome seen (RefusesStored (row.refuses bytes) refusal)
 RefusedBy row bytes seen Done = ⊥
@@ -140,7 +143,7 @@ StopsKept seen moment leaves disk later_disk status run said =
 -- of the problem that the bytes of the source are, at the step that it stops at
 pub record RunsThroughTo (before after : DiskAt) (status : Status) (marks : Marks) (image bytes said : List ℕ) : Type 0 where
   pub problem : Problem
-  pub accepted : IsProblemOf bytes problem
+  pub accepted : IsStorable bytes problem
   pub through : RunsThrough before after status
       (record { bytes = bytes; problem = problem; every = marks.every; target = stop_of marks.to problem; deltas = marks.deltas }) image said
 
@@ -160,6 +163,17 @@ abbrev pub StopsTo : {D : Type 0} → (D → Option (List ℕ)) → (D → ℕ) 
 StopsTo seen moment leaves disk later_disk status None bytes said = OnlyReads seen moment leaves disk later_disk
 StopsTo seen moment leaves disk later_disk status (Some command) bytes said =
     StopsBy seen moment leaves disk later_disk status (meaning command).keeps bytes said
+
+-- ---- the disk comes after the source
+
+-- The source ends the call: it was not read, or its bytes are refused.
+abbrev pub EndsAtSource : Status → Type 0
+EndsAtSource ReadFault = Unit {0}
+EndsAtSource (BadProblem fault) = Unit {0}
+EndsAtSource (BadBatch place) = Unit {0}
+EndsAtSource (Species k) = Unit {0}
+EndsAtSource (BadView part) = Unit {0}
+EndsAtSource _ = ⊥
 
 -- ---- what is pending
 

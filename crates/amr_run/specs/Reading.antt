@@ -3,8 +3,9 @@ use Rattle.std.specs.Prelude.{ℕ, ◌≡◌, ◌≤◌, List, length, map, Opti
 use Rattle.std.specs.List.{All}
 use Rattle.std.specs.Io.KnownBytes.{Consumes}
 use Rattle.amr_batch.specs.Batch.{IsBatch, IsSpanOf, bytes_in}
+use Rattle.amr_checkpoint.specs.Contents.{IsStorable}
 use Rattle.amr_problem.specs.Judgement.{IsProblemOf}
-use Rattle.amr_run.specs.Table.{JudgesBatch, JudgesProblem}
+use Rattle.amr_run.specs.Table.{JudgesBatch, JudgesProblem, JudgesStorable}
 use Rattle.amr_run.specs.declared.source.ReadBatch.{ReadBatch}
 use Rattle.amr_run.specs.declared.source.ReadProblem.{ReadProblem}
 use Rattle.amr_run.specs.declared.status.Status.{Status}
@@ -14,6 +15,8 @@ use Rattle.amr_run.specs.declared.status.Status.TheVariants as status
 abbrev pub RefusesBy : (List ℕ → Option Status → Type 0) → Status → List ℕ → Type 0
 RefusesBy judges (status.Problem fault) bytes = judges bytes (Some (status.Problem fault))
 RefusesBy judges (status.BadBatch place) bytes = judges bytes (Some (status.BadBatch place))
+RefusesBy judges (status.Species k) bytes = judges bytes (Some (status.Species k))
+RefusesBy judges (status.BadView part) bytes = judges bytes (Some (status.BadView part))
 RefusesBy judges status.ReadFault bytes = Unit {0}
 RefusesBy judges status.NoMemory bytes = Unit {0}
 RefusesBy judges status.Done bytes = ⊥
@@ -28,14 +31,17 @@ ReadsBy judges is (Err refusal) bytes = RefusesBy judges refusal bytes
 
 -- ---- a problem
 
-abbrev pub Refuses : Status → List ℕ → Type 0
-Refuses status bytes = RefusesBy JudgesProblem status bytes
-
 abbrev pub IsProblemRead : ReadProblem → List ℕ → Type 0
 IsProblemRead given bytes = (given.bytes.items ≡ bytes) × IsProblemOf bytes given.problem
 
 abbrev pub Reads : Result ReadProblem Status → List ℕ → Type 0
 Reads result bytes = ReadsBy JudgesProblem IsProblemRead result bytes
+
+abbrev pub IsStorableRead : ReadProblem → List ℕ → Type 0
+IsStorableRead given bytes = (given.bytes.items ≡ bytes) × IsStorable bytes given.problem
+
+abbrev pub ReadsStorable : Result ReadProblem Status → List ℕ → Type 0
+ReadsStorable result bytes = ReadsBy JudgesStorable IsStorableRead result bytes
 
 -- ---- a batch
 

@@ -11,7 +11,7 @@ use Rattle.amr_run.specs.Outcome.{EndsByLine, EndsSettled, Outcome, StopsTo}
 use Rattle.amr_run.specs.Reading.{TakesAtMost}
 use Rattle.amr_run.specs.Table.{HasAnswer, KeepsCheckpoints, OpensStore, ReadsSource, meaning}
 use Rattle.amr_run.specs.declared.status.Status.{Status}
-use Rattle.amr_run.specs.declared.status.Status.TheVariants.{Done, ReadFault, Problem, DiskFault, Store, WriteFault, NoMemory}
+use Rattle.amr_run.specs.declared.status.Status.TheVariants.{Done, ReadFault, Problem, Species, DiskFault, Store, WriteFault, NoMemory}
 
 pub record Serves {S O E D : Type 0} (left : S → Option (List ℕ)) (src_faults : S → ℕ) (out_holds : O → List ℕ → Type 0) (out_faults : O → ℕ)
     (err_holds : E → List ℕ → Type 0) (err_faults : E → ℕ)
@@ -41,9 +41,11 @@ pub record Serves {S O E D : Type 0} (left : S → Option (List ℕ)) (src_fault
   -- A command that opens no store leaves the disk as it was. A store that refuses a command was not written.
   pub unopened : (command : Command) → asked ≡ Some command → ¬ (OpensStore command) → later_disk ≡ disk
   pub unwritten : (refusal : Refusal) → status ≡ Store refusal → OnlyReads seen moment leaves disk later_disk
-  -- The disk is called once the source was read and its problem judged: where either ends the call, the disk is as it was.
+  -- The disk is called once the source was read, its problem judged and its species counted: where one of these ends the call, the disk is as it
+  -- was.
   pub source_first : status ≡ ReadFault → later_disk ≡ disk
   pub judged_first : (fault : ProblemFault) → status ≡ Problem fault → later_disk ≡ disk
+  pub species_first : (k : ℕ) → status ≡ Species k → later_disk ≡ disk
   -- Words that are no command leave the source, `out` and the disk as they were, also where memory ran out.
   pub untouched : asked ≡ None → (later_src ≡ src) × (later_out ≡ out) × (later_disk ≡ disk)
   -- A command that keeps no checkpoints says nothing on `err` where all is done.

@@ -1,19 +1,21 @@
 -- The table of commands: what each of them means, a row each. The outcome of a call, its stops and what it leaves pending say of a command what
 -- its row says, and nothing else of it.
-use Rattle.std.specs.Prelude.{ℕ, ◌≡◌, ⊤, List, [], Option, None, Some}
+use Rattle.std.specs.Prelude.{ℕ, ◌≡◌, ◌<◌, ⊤, List, [], Option, None, Some}
 use Rattle.amr_batch.specs.Batch.{IsBatch, IsMalformedAt}
 use Rattle.amr_problem.specs.Judgement.{IsProblemOf, fault_of}
 use Rattle.amr_checkpoint.specs.declared.refusal.Refusal.{Refusal}
-use Rattle.amr_checkpoint.specs.Contents.{Content, Holds}
+use Rattle.amr_checkpoint.specs.Contents.{Content, Holds, IsStorable}
 use Rattle.amr_checkpoint.specs.Refusals.{RefusesRun, RefusesShow}
 use Rattle.amr_cli.specs.declared.command.Command.{Command}
-use Rattle.amr_cli.specs.declared.command.Command.TheVariants.{Run, Check, Show, Trial, Batch}
+use Rattle.amr_cli.specs.declared.command.Command.TheVariants.{Run, Check, Show, Trial, Batch, View}
+use Rattle.amr_cli.specs.declared.command.ViewOptions.{ViewOptions}
 use Rattle.amr_def.specs.declared.problem.Problem.{Problem}
-use Rattle.amr_run.specs.Answer.{IsLineOfProblem, IsLineOfTrial, IsPlotOfKeptRun, IsPlotOfRun, IsPlotOfStore, stop_of}
+use Rattle.amr_run.specs.Answer.{IsLineOfProblem, IsLineOfTrial, IsPlotOfKeptRun, IsPlotOfRun, IsPlotOfStore, IsViewOfRun, stop_of}
 use Rattle.amr_run.specs.Batch.{IsBatchAnswer}
+use Rattle.amr_run.specs.Views.{bad_view}
 use Rattle.amr_run.specs.declared.commands.Marks.{Marks}
 use Rattle.amr_run.specs.declared.status.Status.{Status}
-use Rattle.amr_run.specs.declared.status.Status.TheVariants.{Problem as BadProblem, BadBatch}
+use Rattle.amr_run.specs.declared.status.Status.TheVariants.{Problem as BadProblem, BadBatch, Species, BadView}
 
 -- ---- the columns
 
@@ -37,6 +39,26 @@ JudgesProblem bytes None = fault_of bytes ≡ None
 JudgesProblem bytes (Some (BadProblem fault)) = fault_of bytes ≡ Some fault
 JudgesProblem bytes (Some status) = ⊥
 
+-- the bytes are a problem with this fact
+pub record IsProblemWith (bytes : List ℕ) (fact : Problem → Type 0) : Type 0 where
+  pub problem : Problem
+  pub accepted : IsProblemOf bytes problem
+  pub has : fact problem
+
+-- its bytes are those of a problem of one species, or refused by their first fault, or those of a problem of so many species
+abbrev pub JudgesStorable : List ℕ → Option Status → Type 0
+JudgesStorable bytes None = IsProblemWith bytes (λ p. p.species ≡ 1)
+JudgesStorable bytes (Some (BadProblem fault)) = fault_of bytes ≡ Some fault
+JudgesStorable bytes (Some (Species k)) = IsProblemWith bytes (λ p. (p.species ≡ k) × (1 < k))
+JudgesStorable bytes (Some status) = ⊥
+
+-- its bytes are those of a problem that has this view, or refused by their first fault, or those of a problem in which this part of it is outside
+abbrev pub JudgesView : ViewOptions → List ℕ → Option Status → Type 0
+JudgesView asked bytes None = IsProblemWith bytes (λ p. bad_view asked p ≡ None)
+JudgesView asked bytes (Some (BadProblem fault)) = fault_of bytes ≡ Some fault
+JudgesView asked bytes (Some (BadView part)) = IsProblemWith bytes (λ p. bad_view asked p ≡ Some part)
+JudgesView asked bytes (Some status) = ⊥
+
 -- its bytes are a batch, or malformed at a place
 abbrev pub JudgesBatch : List ℕ → Option Status → Type 0
 JudgesBatch bytes None = (jobs : List (List ℕ)) × IsBatch bytes jobs
@@ -55,7 +77,7 @@ UsesNoStore bytes content refusal = ⊥
 -- the run of the problem, to the step that it stops at, is refused so
 pub record RefusesRunTo (to : Option ℕ) (bytes : List ℕ) (content : Content) (refusal : Refusal) : Type 0 where
   pub problem : Problem
-  pub accepted : IsProblemOf bytes problem
+  pub accepted : IsStorable bytes problem
   pub refuses : RefusesRun bytes (stop_of to problem) content refusal
 
 -- ---- the rows
@@ -75,7 +97,7 @@ run_row to = record {
 abbrev pub kept_row : Marks → Meaning
 kept_row marks = record {
   reads = Some 65537;
-  judges = JudgesProblem;
+  judges = JudgesStorable;
   opens = Unit {0};
   refuses = RefusesRunTo marks.to;
   keeps = Some marks;
@@ -126,6 +148,17 @@ batch_row = record {
   answers = λ bytes seen out said. IsBatchAnswer bytes out × (said ≡ []);
 }
 
+-- `view`
+abbrev pub view_row : ViewOptions → Meaning
+view_row asked = record {
+  reads = Some 65537;
+  judges = JudgesView asked;
+  opens = ⊥;
+  refuses = UsesNoStore;
+  keeps = None;
+  answers = λ bytes seen out said. IsViewOfRun bytes asked out × (said ≡ []);
+}
+
 -- by whether checkpoints are asked for
 abbrev pub run_meaning : Option ℕ → Option ℕ → Option ℕ → Meaning
 run_meaning to None deltas = run_row to
@@ -138,6 +171,7 @@ meaning Check = check_row
 meaning Show = show_row
 meaning (Trial number size workers) = trial_row number size
 meaning (Batch workers) = batch_row
+meaning (View asked) = view_row asked
 
 -- ---- by command
 

@@ -12,6 +12,8 @@ use Rattle.amr_problem.specs.Keys.{text_of}
 use Rattle.amr_checkpoint.specs.Refusals.{disk_text, refusal_line}
 use Rattle.amr_run.specs.declared.status.Status.{Status}
 use Rattle.amr_run.specs.declared.status.Status.TheVariants as status
+use Rattle.amr_run.specs.declared.views.ViewPart.{ViewPart}
+use Rattle.amr_run.specs.declared.views.ViewPart.TheVariants as part
 
 -- the line of a problem: its columns, rows and steps, and its finest level
 abbrev pub problem_line : Problem → List ℕ
@@ -26,10 +28,19 @@ exit_status status.WriteFault = 5
 exit_status status.DiskFault = 6
 exit_status (status.Store reason) = 7
 exit_status (status.BadBatch place) = 8
+exit_status (status.Species k) = 7
 exit_status status.NoMemory = 9
+exit_status (status.BadView outside) = 10
 
 abbrev pub usage_text : List ℕ
-usage_text = codes "usage: run [--workers W] [--to K] [--keep E] [--deltas D] | check | show | trial NUMBER SIZE [--workers W] | batch [--workers W]"
+usage_text =
+    codes "usage: run [--workers W] [--to K] [--keep E] [--deltas D] | check | show | trial NUMBER SIZE [--workers W] | batch [--workers W]"
+    ++ codes " | view LEVEL X0 Y0 X1 Y1 [--species S] [--workers W]"
+
+abbrev pub part_text : ViewPart → List ℕ
+part_text part.Level = codes "level"
+part_text part.Box = codes "box"
+part_text part.Species = codes "species"
 
 -- what stands before a number's digits
 abbrev pub sign_text : ℤ → List ℕ
@@ -53,6 +64,8 @@ fault_text (problem.BlockOutside index) = spaced (codes "problem: block" ∷ dec
 fault_text (problem.TagCount given max_level) =
     spaced (codes "problem:" ∷ signed_decimal given ∷ codes "tags for" ∷ signed_decimal max_level ∷ codes "levels" ∷ [])
 fault_text (problem.Blocking axis b) = spaced (codes "problem: blocking" ∷ signed_decimal b ∷ codes "does not fit" ∷ axis_text axis ∷ [])
+fault_text (problem.SpeciesOutside index species) =
+    spaced (codes "problem: block" ∷ decimal index ∷ codes "of species" ∷ signed_decimal species ∷ [])
 
 -- the line of a refusal
 abbrev pub refusal : List ℕ → List ℕ
@@ -65,6 +78,8 @@ message status.Usage = refusal usage_text
 message status.ReadFault = refusal (codes "read failed")
 message (status.Problem fault) = refusal (fault_text fault)
 message (status.BadBatch place) = refusal (spaced (codes "batch malformed at" ∷ decimal place ∷ []))
+message (status.Species k) = refusal (spaced (codes "store keeps one species:" ∷ decimal k ∷ codes "given" ∷ []))
+message (status.BadView outside) = refusal (spaced (codes "view outside:" ∷ part_text outside ∷ []))
 message status.DiskFault = refusal disk_text
 message (status.Store reason) = refusal_line reason
 message status.WriteFault = refusal (codes "write failed")

@@ -4,8 +4,8 @@ ghost use Rattle.std.specs.Io.KnownBytes.{IsAtEnd};
 ghost use Rattle.amr_causes.specs.Bytes.{Grows, WereLeft};
 ghost use Rattle.amr_causes.specs.Causes.{Rose};
 ghost use Rattle.amr_batch.specs.Answer.{job_reply};
-ghost use Rattle.amr_def.specs.Plot.{plot};
-ghost use Rattle.amr_def.specs.Run.{run};
+ghost use Rattle.amr_def.specs.Plot.{plot_all};
+ghost use Rattle.amr_def.specs.Species.{run_all};
 ghost use Rattle.amr_run.specs.Answer.{IsSoundRun};
 ghost use Rattle.amr_run.specs.Batch.{IsReplyTo};
 ghost use Rattle.amr_run.specs.Outcome.{RepliesBy, status_of};
@@ -21,7 +21,7 @@ use amr_batch::{Reply, Solve, put_answer, run_all};
 use amr_causes::NoMemory;
 use amr_def::Problem;
 use amr_io::{Page, Sink, Source};
-use amr_plot::{plot, plot_len};
+use amr_plot::{plot_all, plot_all_len};
 use amr_problem::{JudgeFault, judge};
 use amr_workers::Gate;
 use std::alloc::Global;
@@ -40,7 +40,7 @@ impl<R: Threads + Wait + Sync, G: Gate + Sync> LoneWorker<'_, R, G> {
     /// The plot of a problem's run to its last step, in memory for just its bytes. Out of memory is the only refusal.
     fn plot_of(&self, problem: &Problem) -> Result<Vec<u8>, NoMemory>
         requires gate { (worker task : ℕ) → worker < 1 → G.admits self.now.gate.now worker task }
-        ensures text { IfOk result (λ text. text.items ≡ plot problem.now (run problem.now problem.now.steps)) }
+        ensures text { IfOk result (λ text. text.items ≡ plot_all problem.now (run_all problem.now problem.now.steps)) }
         ensures run { OnOk result (IsSoundRun problem.now problem.now.steps) }
     {
         let workers = Workshop {
@@ -49,11 +49,10 @@ impl<R: Threads + Wait + Sync, G: Gate + Sync> LoneWorker<'_, R, G> {
             gate: self.gate,
             alloc: self.alloc,
         };
-        let Ok(mesh) = run_to(&workers, problem, problem.steps) else {
-            return Err(NoMemory);
-        };
-        let mut page = Page::with_room(self.alloc, plot_len(problem, &mesh) as usize)?;
-        match plot(problem, &mesh, &mut page) {
+        let flock = run_to(&workers, problem, problem.steps)?;
+        let meshes = flock.meshes();
+        let mut page = Page::with_room(self.alloc, plot_all_len(problem, meshes) as usize)?;
+        match plot_all(problem, meshes, &mut page) {
             Ok(()) => Ok(page.into_bytes()),
             Err(_) => Err(NoMemory),
         }

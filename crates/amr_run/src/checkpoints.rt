@@ -3,7 +3,7 @@ ghost use Rattle.std.specs.Prelude.{◌≡◌, ◌≢◌, ◌-◌, ◌<◌, ◌�
 ghost use Rattle.amr_causes.specs.Bytes.{Grows};
 ghost use Rattle.amr_causes.specs.Causes.{Rose};
 ghost use Rattle.amr_checkpoint.specs.Checkpoints.{CanGoOn, IsMeshFor, IsResumedReady, IsStoreFor, MayPut, content_resumed};
-ghost use Rattle.amr_checkpoint.specs.Contents.{Holds, state_from};
+ghost use Rattle.amr_checkpoint.specs.Contents.{Holds, IsStorable, state_from};
 ghost use Rattle.amr_checkpoint.specs.Kept.{Keeps, checkpoints_of, fault_in, made_of, run_of};
 ghost use Rattle.amr_checkpoint.specs.Outside.{outside_at};
 ghost use Rattle.amr_def.specs.Facts.{IsSound};
@@ -13,11 +13,10 @@ ghost use Rattle.amr_payload.specs.Delta.{IsLater};
 ghost use Rattle.amr_disk.specs.Image.{Only};
 ghost use Rattle.amr_drive.specs.States.{states_after};
 ghost use Rattle.amr_patch.specs.Meshes.{is_spent, state_of};
-ghost use Rattle.amr_problem.specs.Judgement.{IsProblemOf};
 ghost use Rattle.amr_store.specs.Phases.{OnlyReads};
 ghost use Rattle.amr_store.specs.Stands.{IsStoreReady, last_in, problem_in};
 ghost use Rattle.amr_run.specs.Kept.{KeptReplies};
-ghost use Rattle.amr_run.specs.Outcome.{StopsKept, status_of};
+ghost use Rattle.amr_run.specs.Outcome.{EndsAtSource, StopsKept, status_of};
 
 use crate::Status;
 use crate::commands::Workshop;
@@ -130,7 +129,7 @@ fn run_from<R: Threads + Wait + Sync, E: Sink, D: Disk, G: Gate + Sync>(
     err: &mut E,
     disk: &mut D,
 ) -> Result<Mesh, KeepFault>
-    requires accepted { IsProblemOf bytes.now keeping.now.problem.now }
+    requires accepted { IsStorable bytes.now keeping.now.problem.now }
     requires within { keeping.now.target ≤ keeping.now.problem.now.steps }
     requires some { 0 < keeping.now.every }
     requires deltas { IfSome keeping.now.deltas (λ d. (0 < d) × (d ≤ 7)) }
@@ -177,7 +176,7 @@ pub(crate) fn keep_run<R: Threads + Wait + Sync, E: Sink, D: Disk, G: Gate + Syn
     err: &mut E,
     disk: &mut D,
 ) -> Result<Mesh, Status>
-    requires accepted { IsProblemOf bytes.now keeping.now.problem.now }
+    requires accepted { IsStorable bytes.now keeping.now.problem.now }
     requires within { keeping.now.target ≤ keeping.now.problem.now.steps }
     requires some { 0 < keeping.now.every }
     requires deltas { IfSome keeping.now.deltas (λ d. (0 < d) × (d ≤ 7)) }
@@ -189,8 +188,8 @@ pub(crate) fn keep_run<R: Threads + Wait + Sync, E: Sink, D: Disk, G: Gate + Syn
     ensures outcome { (said : List ℕ) × Grows E.holds err.old err.new said
         × KeptReplies result bytes.now keeping.now.problem.now keeping.now.every keeping.now.target (D.seen disk.old) said
         × StopsKept D.seen D.moment D.leaves disk.old disk.new (status_of result) (run_of bytes.now keeping.now) said }
-    ensures refused { IfErr result (λ status. (status ≢ Status.Done) × (status ≢ Status.ReadFault)) }
-    ensures no_problem { (fault : _) → result ≢ Err (Status.Problem fault) }
+    ensures refused { IfErr result (λ status. status ≢ Status.Done) }
+    ensures no_source { ¬ (EndsAtSource (status_of result)) }
     ensures disk_fault { result ≡ Err Status.DiskFault → Rose (D.faults disk.old) (D.faults disk.new) }
     ensures no_disk_fault { result ≢ Err Status.DiskFault → D.faults disk.new ≡ D.faults disk.old }
     ensures write_fault { result ≡ Err Status.WriteFault → Rose (E.faults err.old) (E.faults err.new) }

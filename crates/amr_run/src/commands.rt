@@ -1,33 +1,35 @@
 //! The commands.
-ghost use Rattle.std.specs.Prelude.{◌≡◌, ◌≢◌, ◌<◌, ◌≤◌, List, [], ℕ, Option, Err, false, IfErr, IfOk, IfSome, OnOk, OnErr};
+ghost use Rattle.std.specs.Prelude.{◌≡◌, ◌≢◌, ◌<◌, ◌≤◌, List, [], ℕ, Option, Err, false, IfErr, IfOk, IfSome, OnOk, OnErr, slice_index_or};
 ghost use Rattle.std.specs.Io.KnownBytes.{IsAtEnd};
 ghost use Rattle.amr_causes.specs.Causes.{HasCause, Rose};
 ghost use Rattle.amr_causes.specs.Bytes.{Grows, WereLeft};
 ghost use Rattle.amr_io.specs.Short.{FallsShort};
 ghost use Rattle.amr_run.specs.Texts.{problem_line};
 ghost use Rattle.amr_def.specs.Facts.{IsSound};
-ghost use Rattle.amr_def.specs.Run.{run};
+ghost use Rattle.amr_def.specs.Species.{no_state, run_all};
+ghost use Rattle.amr_drive.specs.Flocks.{IsFlockOf, states_of};
 ghost use Rattle.amr_patch.specs.Meshes.{is_spent, state_of};
 ghost use Rattle.amr_trial.specs.Trial.{IsSize};
 ghost use Rattle.amr_store.specs.Phases.{OnlyReads};
 ghost use Rattle.amr_run.specs.Answer.{IsSoundRun, stop_of};
 ghost use Rattle.amr_run.specs.Faults.{HasCauses, faults_at};
-ghost use Rattle.amr_run.specs.Outcome.{EndsSettled, RepliesBy, StopsRun, status_of};
+ghost use Rattle.amr_run.specs.Outcome.{EndsAtSource, EndsSettled, RepliesBy, StopsRun, status_of};
 ghost use Rattle.amr_run.specs.Reading.{TakesAtMost};
 ghost use Rattle.amr_run.specs.Table.{check_row, kept_row, run_row, show_row, trial_row};
 
 use crate::Status;
 use crate::checkpoints::keep_run;
 use crate::line::put_line;
-use crate::source::read_problem;
+use crate::source::{read_problem, read_storable};
 use amr_advance::Crew;
+use amr_causes::NoMemory;
 use amr_checkpoint::Keeping;
 use amr_def::Problem;
 use amr_disk::Disk;
-use amr_drive::{Nothing, drive, start};
+use amr_drive::{Flock, drive_all};
 use amr_io::{Fragment, Sink, Source, WriteFault, write_whole};
 use amr_patch::Mesh;
-use amr_plot::{plot, plot_in_threads};
+use amr_plot::{plot, plot_all_in_threads, plot_in_threads};
 use amr_problem::judge;
 use amr_trial::{summary, text};
 use amr_workers::Gate;
@@ -68,38 +70,46 @@ fn stop_of(problem: &Problem, to: Option<u32>) -> u32
     }
 }
 
-/// The state of a problem's run at step `target`. Out of memory is the only refusal.
+/// The states of a problem's run at step `target`, one of each species. Out of memory is the only refusal.
 pub(crate) fn run_to<R: Threads + Wait + Sync, G: Gate + Sync>(
     workers: &Workshop<'_, R, G>,
     problem: &Problem,
     target: u32,
-) -> Result<Mesh, Status>
+) -> Result<Flock, NoMemory>
     requires within { target ≤ problem.now.steps }
     requires some_workers { 1 ≤ workers.now.count }
     requires few_workers { workers.now.count ≤ 64 }
     requires gate { (worker task : ℕ) → worker < workers.now.count → G.admits workers.now.gate.now worker task }
-    ensures value { IfOk result (λ m. state_of m ≡ run problem.now target) }
-    ensures sound { IfOk result (λ m. IsSound problem.now (state_of m)) }
-    ensures whole { IfOk result (λ m. is_spent m ≡ false) }
+    ensures value { IfOk result (λ f. states_of f ≡ run_all problem.now target) }
+    ensures flock { IfOk result (IsFlockOf problem.now) }
     ensures run { OnOk result (IsSoundRun problem.now target) }
-    ensures refused { IfErr result (λ status. status ≡ Status.NoMemory) }
 {
-    let mut mesh = start(workers.alloc, problem)?;
+    let mut flock = Flock::start(workers.alloc, problem)?;
     let crew = Crew {
         ranks: 1,
         workers: workers.count,
     };
-    drive(
+    drive_all(
         workers.runtime,
         workers.alloc,
         problem,
-        &mut mesh,
+        &mut flock,
         target,
         crew,
         workers.gate,
-        &mut Nothing,
     )?;
-    Ok(mesh)
+    Ok(flock)
+}
+
+/// The mesh of a species.
+pub(crate) fn mesh_of<'a>(problem: &Problem, flock: &'a Flock, species: u32) -> &'a Mesh
+    requires flock { IsFlockOf problem.now flock.now }
+    requires species { species < problem.now.species }
+    ensures state { state_of result.now ≡ slice_index_or (states_of flock.now) species no_state }
+    ensures whole { is_spent result.now ≡ false }
+    ensures sound { IsSound problem.now (state_of result.now) }
+{
+    &flock.meshes()[species as usize]
 }
 
 /// The command `run`: the plot of the run of the problem on the source, or the status that refuses it.
@@ -124,20 +134,20 @@ pub(crate) fn run<R: Threads + Wait + Sync, S: Source, O: Sink, G: Gate + Sync>(
 {
     let given = read_problem(workers.alloc, src)?;
     let target = stop_of(&given.problem, to);
-    let mesh = run_to(workers, &given.problem, target)?;
-    plot_in_threads(
+    let flock = run_to(workers, &given.problem, target)?;
+    plot_all_in_threads(
         workers.runtime,
         workers.count as usize,
         workers.alloc,
         &given.problem,
-        &mesh,
+        flock.meshes(),
         out,
     )?;
     Ok(())
 }
 
 /// The command `run` with checkpoints, which goes on from what the disk holds. It answers the plot of the run of the
-/// problem on the source, or the status that refuses it. Each checkpoint is acknowledged on `err` once it stands; the
+/// problem of one species on the source, or the status that refuses it. Each checkpoint is acknowledged on `err` once it stands; the
 /// plot is written last.
 pub(crate) fn keep<R: Threads + Wait + Sync, S: Source, O: Sink, E: Sink, D: Disk, G: Gate + Sync>(
     workers: &Workshop<'_, R, G>,
@@ -163,10 +173,9 @@ pub(crate) fn keep<R: Threads + Wait + Sync, S: Source, O: Sink, E: Sink, D: Dis
         HasCauses (status_of result) (faults src.old out.old err.old disk.old) (faults src.new out.new err.new disk.new) }
     ensures settled { EndsSettled D.seen D.moment D.leaves disk.old disk.new (status_of result) }
     ensures unwritten { (refusal : _) → result ≡ Err (Status.Store refusal) → OnlyReads D.seen D.moment D.leaves disk.old disk.new }
-    ensures source_first { result ≡ Err Status.ReadFault → disk.new ≡ disk.old }
-    ensures judged_first { (fault : _) → result ≡ Err (Status.Problem fault) → disk.new ≡ disk.old }
+    ensures source_first { EndsAtSource (status_of result) → disk.new ≡ disk.old }
 {
-    let given = read_problem(workers.alloc, src)?;
+    let given = read_storable(workers.alloc, src)?;
     let keeping = Keeping {
         alloc: workers.alloc,
         problem: &given.problem,
@@ -191,8 +200,7 @@ pub(crate) fn show<O: Sink, D: Disk>(alloc: Global, out: &mut O, disk: &mut D) -
     ensures outcome { (sent : List ℕ) × Grows O.holds out.old out.new sent
         × ((bytes : List ℕ) → RepliesBy show_row (status_of result) bytes (D.seen disk.old) sent []) }
     ensures refused { IfErr result (λ status. status ≢ Status.Done) }
-    ensures no_read_fault { result ≢ Err Status.ReadFault }
-    ensures no_problem { (fault : _) → result ≢ Err (Status.Problem fault) }
+    ensures no_source { ¬ (EndsAtSource (status_of result)) }
     ensures reads { OnlyReads D.seen D.moment D.leaves disk.old disk.new }
     ensures settled { EndsSettled D.seen D.moment D.leaves disk.old disk.new (status_of result) }
     ensures disk_fault { result ≡ Err Status.DiskFault → Rose (D.faults disk.old) (D.faults disk.new) }
@@ -227,8 +235,8 @@ pub(crate) fn trial<R: Threads + Wait + Sync, O: Sink, G: Gate + Sync>(
     let alloc = workers.alloc;
     let bytes = text(alloc, number, size)?;
     let problem = judge(alloc, &bytes)?;
-    let mesh = run_to(workers, &problem, TRIAL_STEPS)?;
-    let line = summary(alloc, number, size, &problem, &mesh)?;
+    let flock = run_to(workers, &problem, TRIAL_STEPS)?;
+    let line = summary(alloc, number, size, &problem, mesh_of(&problem, &flock, 0))?;
     write_whole(out, &line)?;
     Ok(())
 }

@@ -11,7 +11,9 @@ mod message;
 mod run;
 mod source;
 mod status;
+mod views;
 
 pub use laws::replies_stand_alone;
 pub use run::{amr, amr_gated};
 pub use status::Status;
+pub use views::ViewPart;

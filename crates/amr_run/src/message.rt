@@ -3,17 +3,19 @@ ghost use Rattle.std.specs.Prelude.{◌≡◌, OnOk, OnErr, unsigned_abs};
 ghost use Rattle.amr_causes.specs.Causes.{HasCause};
 ghost use Rattle.amr_causes.specs.Bytes.{Grows};
 ghost use Rattle.amr_io.specs.Short.{FallsShort};
-ghost use Rattle.amr_run.specs.Texts.{axis_text, fault_text, message, refusal, sign_text};
+ghost use Rattle.amr_run.specs.Texts.{axis_text, fault_text, message, part_text, refusal, sign_text};
 
 use crate::Status;
 use crate::line::put_line;
+use crate::views::ViewPart;
 use amr_box::Axis;
 use amr_checkpoint::put_refusal;
 use amr_io::{Fragment, Sink, WriteFault};
 use amr_problem::{Key, ProblemFault};
 
 const USAGE: &str =
-    "amr: usage: run [--workers W] [--to K] [--keep E] [--deltas D] | check | show | trial NUMBER SIZE [--workers W] | batch [--workers W]";
+    "amr: usage: run [--workers W] [--to K] [--keep E] [--deltas D] | check | show | trial NUMBER SIZE [--workers W] | batch [--workers W] \
+    | view LEVEL X0 Y0 X1 Y1 [--species S] [--workers W]";
 
 /// Writes the line of a refusal, nothing where all is done.
 pub(crate) fn tell<E: Sink>(err: &mut E, status: &Status) -> Result<(), WriteFault>
@@ -32,6 +34,21 @@ pub(crate) fn tell<E: Sink>(err: &mut E, status: &Status) -> Result<(), WriteFau
             &[
                 Fragment::Str("amr: batch malformed at "),
                 Fragment::Number(*place),
+            ],
+        ),
+        Status::Species(count) => put_line(
+            err,
+            &[
+                Fragment::Str("amr: store keeps one species: "),
+                Fragment::Number(u64::from(*count)),
+                Fragment::Str(" given"),
+            ],
+        ),
+        Status::BadView(part) => put_line(
+            err,
+            &[
+                Fragment::Str("amr: view outside: "),
+                Fragment::Str(part_name(*part)),
             ],
         ),
         Status::DiskFault => put_line(err, &[Fragment::Str("amr: disk failed")]),
@@ -89,6 +106,7 @@ fn put_fault<E: Sink>(err: &mut E, fault: &ProblemFault) -> Result<(), WriteFaul
         ),
         ProblemFault::TagCount(given, max_level) => put_tag_count(err, given, max_level),
         ProblemFault::Blocking(axis, blocking) => put_blocking(err, *axis, blocking),
+        ProblemFault::SpeciesOutside(index, species) => put_species(err, *index, species),
     }
 }
 
@@ -163,6 +181,23 @@ fn put_blocking<E: Sink>(err: &mut E, axis: Axis, blocking: &i64) -> Result<(), 
     )
 }
 
+fn put_species<E: Sink>(err: &mut E, index: u32, species: &i64) -> Result<(), WriteFault>
+    ensures whole { OnOk result (Grows E.holds err.old err.new (refusal (fault_text (ProblemFault.SpeciesOutside index species.now)))) }
+    ensures short { OnErr result (FallsShort E.holds err.old err.new (refusal (fault_text (ProblemFault.SpeciesOutside index species.now)))) }
+    ensures cause { HasCause (E.faults err.old) (E.faults err.new) result }
+{
+    put_line(
+        err,
+        &[
+            Fragment::Str("amr: problem: block "),
+            Fragment::Number(u64::from(index)),
+            Fragment::Str(" of species "),
+            Fragment::Str(sign(species)),
+            Fragment::Number(size(species)),
+        ],
+    )
+}
+
 /// What stands before a number's digits.
 fn sign(value: &i64) -> &'static str
     ensures { result.now ≡ sign_text value.now }
@@ -183,5 +218,15 @@ fn axis_name(axis: Axis) -> &'static str
     match axis {
         Axis::X => "x",
         Axis::Y => "y",
+    }
+}
+
+fn part_name(part: ViewPart) -> &'static str
+    ensures { result.now ≡ part_text part }
+{
+    match part {
+        ViewPart::Level => "level",
+        ViewPart::Box => "box",
+        ViewPart::Species => "species",
     }
 }

@@ -4,7 +4,7 @@ ghost use Rattle.std.specs.Io.KnownBytes.{IsAtEnd};
 ghost use Rattle.amr_causes.specs.Bytes.{Grows, WereLeft};
 ghost use Rattle.amr_cli.specs.Words.{HasRanges, HasWorkers, command_of};
 ghost use Rattle.amr_run.specs.Faults.{HasCauses, faults_at};
-ghost use Rattle.amr_run.specs.Outcome.{EndsSettled, Outcome, RepliesTo, StopsTo, status_of};
+ghost use Rattle.amr_run.specs.Outcome.{EndsAtSource, EndsSettled, Outcome, RepliesTo, StopsTo, status_of};
 ghost use Rattle.amr_run.specs.Reading.{TakesAtMost};
 ghost use Rattle.amr_run.specs.Served.{Serves};
 ghost use Rattle.amr_run.specs.Table.{KeepsCheckpoints, OpensStore, ReadsSource, meaning};
@@ -14,6 +14,7 @@ use crate::Status;
 use crate::batch::batch;
 use crate::commands::{Marks, Workshop, check, keep, run, show, trial};
 use crate::message::tell;
+use crate::views::view;
 use amr_cli::{CliFault, Command, Line, parse};
 use amr_disk::Disk;
 use amr_io::{Sink, Source};
@@ -24,7 +25,7 @@ use std::thread::Threads;
 
 /// Does what the words ask for: reads a problem from `src` and writes the answer of the command to `out`, or says on
 /// `err` why not. The answer of `run` is the plot of the problem's run, and that of `check` the line of the problem.
-/// That of `show` is the plot of the state that `disk` holds. The steps of a run are made by as many workers as the
+/// That of `show` is the plot of the state that `disk` holds, and that of `view` the masses of a box after the run. The steps of a run are made by as many workers as the
 /// words say, on threads of the runtime; the answer is the same for any number. The call joins them, and keeps its
 /// promise if it returns.
 ///
@@ -106,8 +107,7 @@ fn serve<R: Threads + Wait + Sync, S: Source, O: Sink, E: Sink, D: Disk, G: Gate
     ensures settled { (command : _) → command_of words.now ≡ Some command → OpensStore command
         → EndsSettled D.seen D.moment D.leaves disk.old disk.new result }
     ensures unwritten { (refusal : _) → result ≡ Status.Store refusal → OnlyReads D.seen D.moment D.leaves disk.old disk.new }
-    ensures source_first { result ≡ Status.ReadFault → disk.new ≡ disk.old }
-    ensures judged_first { (fault : _) → result ≡ Status.Problem fault → disk.new ≡ disk.old }
+    ensures source_first { EndsAtSource result → disk.new ≡ disk.old }
     ensures causes { let faults = faults_at S.faults O.faults E.faults D.faults in
         HasCauses result (faults src.old out.old err.old disk.old) (faults src.new out.new err.new disk.new) }
 {
@@ -145,8 +145,7 @@ fn answer<R: Threads + Wait + Sync, S: Source, O: Sink, E: Sink, D: Disk, G: Gat
     ensures refused { IfErr result (λ status. (status ≢ Status.Done) × (status ≢ Status.Usage)) }
     ensures settled { OpensStore command → EndsSettled D.seen D.moment D.leaves disk.old disk.new (status_of result) }
     ensures unwritten { (refusal : _) → result ≡ Err (Status.Store refusal) → OnlyReads D.seen D.moment D.leaves disk.old disk.new }
-    ensures source_first { result ≡ Err Status.ReadFault → disk.new ≡ disk.old }
-    ensures judged_first { (fault : _) → result ≡ Err (Status.Problem fault) → disk.new ≡ disk.old }
+    ensures source_first { EndsAtSource (status_of result) → disk.new ≡ disk.old }
     ensures causes { let faults = faults_at S.faults O.faults E.faults D.faults in
         HasCauses (status_of result) (faults src.old out.old err.old disk.old) (faults src.new out.new err.new disk.new) }
 {
@@ -173,6 +172,7 @@ fn answer<R: Threads + Wait + Sync, S: Source, O: Sink, E: Sink, D: Disk, G: Gat
             workers,
         } => trial(&workers_of(shell, workers), number, size, out),
         Command::Batch { workers } => batch(&workers_of(shell, workers), src, out),
+        Command::View(asked) => view(&workers_of(shell, asked.workers), &asked, src, out),
     }
 }
 

@@ -3,7 +3,7 @@ ghost use Rattle.std.specs.Prelude.{◌≡◌, ◌≢◌, List, ℕ, Err, OnOk};
 ghost use Rattle.std.specs.Io.KnownBytes.{IsAtEnd};
 ghost use Rattle.amr_causes.specs.Bytes.{WereLeft};
 ghost use Rattle.amr_causes.specs.Causes.{Rose};
-ghost use Rattle.amr_run.specs.Reading.{Reads, ReadsBatch, TakesAtMost};
+ghost use Rattle.amr_run.specs.Reading.{Reads, ReadsBatch, ReadsStorable, TakesAtMost};
 ghost use Rattle.amr_run.specs.Refusals.{batch_unread};
 
 use crate::Status;
@@ -44,6 +44,27 @@ pub(crate) fn read_problem<S: Source>(alloc: Global, src: &mut S) -> Result<Read
     let bytes = read_all(alloc, src, MOST_BYTES)?;
     let problem = judge(alloc, &bytes)?;
     Ok(ReadProblem { bytes, problem })
+}
+
+/// The problem of one species that the source gives, read to its end. One of more is refused: the store doesn't keep it.
+pub(crate) fn read_storable<S: Source>(alloc: Global, src: &mut S) -> Result<ReadProblem, Status>
+    ensures problem { (bytes : List ℕ) × WereLeft (S.left src.old) bytes × ReadsStorable result bytes }
+    ensures ended { OnOk result (IsAtEnd (S.left src.new)) }
+    ensures taken { TakesAtMost 65537 (S.left src.old) (S.left src.new) }
+    ensures read_fault { result ≡ Err Status.ReadFault → Rose (S.faults src.old) (S.faults src.new) }
+    ensures no_read_fault { result ≢ Err Status.ReadFault → S.faults src.new ≡ S.faults src.old }
+{
+    match read_problem(alloc, src) {
+        Ok(given) => {
+            let species = given.problem.species;
+            if species == 1 {
+                Ok(given)
+            } else {
+                Err(Status::Species(species))
+            }
+        }
+        Err(refusal) => Err(refusal),
+    }
 }
 
 /// The batch that the source gives, read to its end.

@@ -2,13 +2,12 @@
 ghost use Rattle.std.specs.Prelude.{◌≡◌};
 ghost use Rattle.amr_run.specs.Texts.{exit_status};
 
+use crate::views::ViewPart;
 use amr_batch::JobsFault;
 use amr_causes::NoMemory;
 use amr_checkpoint::{KeepFault, Refusal, ResumeFault};
-use amr_drive::DriveFault;
 use amr_io::{ReadAll, WriteFault};
 use amr_problem::{JudgeFault, ProblemFault};
-use std::convert::Infallible;
 
 /// How a call of [`amr`](crate::amr) ended, in the order in which the causes are looked for.
 #[derive(Debug, Drop)]
@@ -24,6 +23,10 @@ pub enum Status {
     /// The bytes of the source are no batch: the offset at which the first job begins that isn't whole and of the form, or is one
     /// too many; 1,048,576 where there are more bytes than that.
     BadBatch(u64),
+    /// The problem has so many species, and the store keeps one.
+    Species(u32),
+    /// The problem has no such view: this part of it is outside.
+    BadView(ViewPart),
     /// The disk failed.
     DiskFault,
     /// What is stored refuses the command.
@@ -48,7 +51,9 @@ impl Status {
             Status::DiskFault => 6,
             Status::Store(_) => 7,
             Status::BadBatch(_) => 8,
+            Status::Species(_) => 7,
             Status::NoMemory => 9,
+            Status::BadView(_) => 10,
         }
     }
 }
@@ -100,19 +105,6 @@ impl From<NoMemory> for Status {
 
     fn from(_: NoMemory) -> Self {
         Status::NoMemory
-    }
-}
-
-impl From<DriveFault<Infallible>> for Status {
-    ghost use Rattle.amr_run.specs.declared.status.Status.TheVariants.{NoMemory as no_memory};
-
-    ghost from_gives = { λ e status. status ≡ no_memory };
-
-    fn from(fault: DriveFault<Infallible>) -> Self {
-        match fault {
-            DriveFault::After(never) => match never {},
-            DriveFault::NoMemory => Status::NoMemory,
-        }
     }
 }
 

@@ -50,6 +50,7 @@ pub fn problem(
         blocking: 2,
         max_grid_size: 4,
         blocks: Blocks::make(Vec::new(alloc)),
+        species: 1,
     })
 }
 
@@ -60,6 +61,7 @@ const LAST_CELL: Block = Block {
     x1: 8,
     y1: 0,
     mass: 8,
+    species: 0,
 };
 
 /// A ring of 9 by 3 cells on one level, in patches of at most 4 by 4, with a mass of 8 in cell (8, 0). In each of its two steps all
@@ -89,5 +91,6 @@ pub fn nine_columns(alloc: Global) -> Result<Problem, NoMemory>
         blocking: 2,
         max_grid_size: 4,
         blocks: Blocks::make(Vec::from_slice(alloc, [LAST_CELL].as_slice())?),
+        species: 1,
     })
 }

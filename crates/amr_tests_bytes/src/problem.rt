@@ -49,7 +49,7 @@ blocks = [[0, 0, 0, 0]]|WrongKind(Blocks)
 blocks = [[0, 0, 0, 0, true]]|WrongKind(Blocks)
 version = 0|OutOfRange(Version, 0)
 version = 2|accepted
-version = 3|OutOfRange(Version, 3)
+version = 4|OutOfRange(Version, 4)
 name = \"\"|OutOfRange(Name, 0)
 name = \"r\"|accepted
 name = \"az-09_aaaaaaaaaaaaaaaaaaaaaaaaaa\"|accepted
@@ -126,7 +126,7 @@ tap = [];blank = 0|UnknownKey(blank)
 shear_x = [1, 1]|UnknownKey(shear_x)
 shear_y = [1, 1, 1, 1]|UnknownKey(shear_y)
 version;blocking = 2|UnknownKey(blocking)
-version = 3;blocking = 2|UnknownKey(blocking)
+version = 4;blocking = 2|UnknownKey(blocking)
 version = 2.0;blocking = 2|UnknownKey(blocking)
 version = 2;shear_x = []|WrongKind(ShearX)
 version = 2;shear_x = [1, 1]|accepted
@@ -154,7 +154,22 @@ version = 2;courant = [0, 0, 2];shear_x = [1, -1]|accepted
 version = 2;courant = [0, 0, 2];shear_x = [1, -3]|Courant(3, 2)
 version = 2;shear_x = [1, -4]|Courant(5, 4)
 version = 2;shear_y = [0, -4, 1, 0]|Courant(5, 4)
-version = 2;courant = [9, 9, 4];shear_x = [1, 2];shear_y = [2, 1, 0, -2]|accepted";
+version = 2;courant = [9, 9, 4];shear_x = [1, 2];shear_y = [2, 1, 0, -2]|accepted
+version = 2;species = 1|UnknownKey(species)
+version = 4;species = 1|UnknownKey(species)
+version = 2;blocks = [[0, 0, 0, 0, 8, 0]]|WrongKind(Blocks)
+version = 3|WrongKind(Blocks)
+version = 3;blocks = [[0, 0, 0, 0, 8, 0]];blocking = 4;shear_x = [1, 1]|accepted
+version = 3;blocks = [[0, 0, 0, 0, 8, 0, 0]]|WrongKind(Blocks)
+version = 3;blocks = [];species = [1]|WrongKind(Species)
+version = 3;blocks = [];species = 0|OutOfRange(Species, 0)
+version = 3;blocks = [];species = 5|OutOfRange(Species, 5)
+version = 3;species = 4;blocks = [[0, 0, 0, 0, 8, 3], [0, 0, 0, 0, 8, 0]]|accepted
+version = 3;species = 4;blocks = [[0, 0, 0, 0, 8, 4]]|OutOfRange(Blocks, 4)
+version = 3;blocks = [[0, 0, 0, 0, 8, -1]]|OutOfRange(Blocks, -1)
+version = 3;blocks = [[0, 0, 0, 0, 8, 1]]|SpeciesOutside(0, 1)
+version = 3;species = 2;blocks = [[0, 0, 0, 0, 8, 1], [0, 0, 0, 0, 8, 3], [0, 0, 0, 0, 8, 2]]|SpeciesOutside(1, 3)
+version = 3;blocking = 8;blocks = [[0, 0, 0, 0, 8, 1]]|Blocking(Y, 8)";
 
 fn key_of(line: &str) -> &str {
     line.split(' ').next().unwrap_or("")

@@ -32,5 +32,6 @@ pub(crate) fn two_by_two(alloc: Global) -> Result<Problem, Fail>
         blocking: 2,
         max_grid_size: 32,
         blocks: Blocks::make(Vec::new(alloc)),
+        species: 1,
     })
 }

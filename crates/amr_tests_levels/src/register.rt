@@ -3,7 +3,7 @@
 ghost use Rattle.std.specs.Prelude.{◌≡◌, pos};
 ghost use Rattle.amr_box.specs.declared.Cell.{Cell};
 ghost use Rattle.amr_def.specs.State.{Masses};
-ghost use Rattle.amr_register.specs.Registers.{IsRegisterOf, entry_in};
+ghost use Rattle.amr_register.specs.Fields.{IsRegisterOf, entry_in};
 
 use crate::frames::{are_of_level, cell, fill_frames, ghost_at, patch};
 use crate::transfer::put;

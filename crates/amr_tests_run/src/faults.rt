@@ -4,7 +4,8 @@ use crate::cases::{Case, RING, RING_PLOT, ring_with};
 use std::test::Fail;
 
 const USAGE: &str =
-    "amr: usage: run [--workers W] [--to K] [--keep E] [--deltas D] | check | show | trial NUMBER SIZE [--workers W] | batch [--workers W]\n";
+    "amr: usage: run [--workers W] [--to K] [--keep E] [--deltas D] | check | show | trial NUMBER SIZE [--workers W] | batch [--workers W] \
+    | view LEVEL X0 Y0 X1 Y1 [--species S] [--workers W]\n";
 
 const TRIAL: &str =
     "trial 1 64 step 16 levels 3 boxes 16 mass 1501170 sha256 b10ee6787cb6ad3e832772c1cd56fc3516691143d250f1d82867fbe5b0a60a5d\n";
@@ -41,6 +42,10 @@ fn words_that_are_no_command(rt: HostRuntime) {
         "trial 1 7",
         "batch 1",
         "batch --workers 65",
+        "view 0 0 0 1",
+        "view 5 0 0 1 1",
+        "view 0 0 0 1 4096",
+        "view 0 0 0 1 1 --species 4",
     ] {
         Case::of(words, RING.as_bytes()).ends(&rt, 2, "", USAGE);
     }

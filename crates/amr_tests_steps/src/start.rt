@@ -20,6 +20,7 @@ const SPOT: Block = Block {
     x1: 1,
     y1: 0,
     mass: 7,
+    species: 0,
 };
 
 /// A ring of 4 by 2 cells with the spot, which differs by enough to tag it and three neighbours.
@@ -49,6 +50,7 @@ fn spot(alloc: Global, efficiency: u32) -> Result<Problem, NoMemory>
         blocking: 2,
         max_grid_size: 256,
         blocks: Blocks::make(Vec::from_slice(alloc, [SPOT].as_slice())?),
+        species: 1,
     })
 }
 

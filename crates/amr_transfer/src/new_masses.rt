@@ -30,7 +30,7 @@ fn child_share(mass: u32, k: u32) -> u32
 
 /// Works out the shares of the children of parents in a row, two of each: those in the low row of its children where `row` is 0,
 /// those in the high row where it is 1.
-fn share_row(parents: &[u32], row: u32, shares: &mut [u32])
+pub fn share_row(parents: &[u32], row: u32, shares: &mut [u32])
     requires row { row ≤ 1 }
     requires twice { length shares.old ≡ 2 * length parents.now }
     ensures { (k : ℕ) → k < length shares.new → slice_index shares.new k ≡ child_share (slice_index parents.now (k / 2)) (2 * row + k % 2) }

@@ -10,7 +10,7 @@ use amr_box::Bx;
 use amr_patch::{Order, Patch, reach_of};
 
 /// A part of the list, outside which no patch has a cell of the box.
-pub(crate) fn reaching<'a>(patches: &'a [Patch], order: Order, b: &Bx) -> &'a [Patch]
+pub fn reaching<'a>(patches: &'a [Patch], order: Order, b: &Bx) -> &'a [Patch]
     requires order { IsOrderOf order patches.now }
     requires apart { ArePatchesApart patches.now }
     ensures masses { (c : Cell) → IsTrue (holds b.now c) → masses_in result.now c ≡ masses_in patches.now c }

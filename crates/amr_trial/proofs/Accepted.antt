@@ -1,5 +1,5 @@
 -- The text of a trial has no fault.
-use Rattle.std.proofs.Common.{◌≡◌, ◌∙◌, ℕ, ◌+◌, max, ◌%◌, ◌≤◌, ◌<◌, ◌^◌, pos, negsuc, true, false, List, [], ◌∷◌, length, map, fold, option_and_then, option_map, Option, Some, None, nat_lt, int_le, int_lt, refl, ap, arith}
+use Rattle.std.proofs.Common.{◌≡◌, ◌∙◌, ℕ, ◌+◌, max, ◌%◌, ◌≤◌, ◌<◌, ◌^◌, ℤ, pos, negsuc, true, false, List, [], ◌∷◌, length, map, fold, option_and_then, option_map, Option, Some, None, nat_lt, int_le, int_lt, refl, ap, arith}
 use Rattle.std.specs.Option.{option_or, unwrap_or}
 use Rattle.toml.specs.Data.{no_members}
 use Rattle.std.specs.List.{range_with_len}
@@ -7,12 +7,11 @@ use Rattle.std.proofs.lemmas.Bool.Decides.{nat_tests}
 use Rattle.amr_def.specs.declared.problem.Block.{Block}
 use Rattle.amr_problem.specs.declared.fault.ProblemFault.{ProblemFault}
 use Rattle.amr_problem.specs.declared.fault.ProblemFault.TheVariants.{OutOfRange}
-use Rattle.amr_problem.specs.declared.key.Key.TheVariants.{Version, Name, Cells, Courant, Sides, MaxLevel, Tag, Blocks, Blocking}
+use Rattle.amr_problem.specs.declared.key.Key.TheVariants.{Version, Name, Cells, Courant, Sides, MaxLevel, Tag, Blocks, Blocking, Species}
 use Rattle.amr_problem.specs.Document as bytes
-use Rattle.amr_problem.specs.Faults.{too_long, not_toml, over_by, sides_differ, tag_count, block_outside, blocking_misfit, courant_fault, fault_in, first_some, is_inside, key_outside, missing_key, out_of_range, unknown_key, wrong_kind}
-use Rattle.amr_problem.specs.Fields.{block_numbers}
+use Rattle.amr_problem.specs.Faults.{too_long, not_toml, over_by, sides_differ, tag_count, block_outside, blocking_misfit, species_outside, courant_fault, fault_in, first_some, is_inside, key_outside, missing_key, out_of_range, unknown_key, version_in, wrong_kind}
 use Rattle.amr_problem.specs.Judgement.{fault_of}
-use Rattle.amr_problem.specs.Keys.{keys, coordinate, first_outside, holds, range}
+use Rattle.amr_problem.specs.Keys.{keys, ranges_of, first_outside, holds, range}
 use Rattle.amr_problem.specs.Values.{integers_at, is_there, number_at, numbers_at, rows_at, shear_at, text_at}
 use Rattle.amr_trial.specs.Document.{document, trial_name}
 use Rattle.amr_trial.specs.Laws.{LiesInside}
@@ -81,7 +80,11 @@ courant_fits number size =
     let few = courant_below number in
     rw (small_number (courant_x number) (omega (arith, few.0)), small_number (courant_y number) (omega (arith, few.1))) refl
 
-block_fits : (size : ℕ) (b : Block) → size ≤ 256 → LiesInside size b → first_outside (coordinate ∷ coordinate ∷ coordinate ∷ coordinate ∷ range (pos 0) (pos 1073741824) ∷ []) (block_numbers b) ≡ None
+-- a block as it is read: of species 0
+abbrev pub block_row : Block → List ℤ
+block_row b = pos b.x0 ∷ pos b.y0 ∷ pos b.x1 ∷ pos b.y1 ∷ pos b.mass ∷ pos 0 ∷ []
+
+block_fits : (size : ℕ) (b : Block) → size ≤ 256 → LiesInside size b → first_outside (ranges_of Blocks) (block_row b) ≡ None
 block_fits size b few is =
     let x0 = within 0 255 b.x0 (omega arith) (omega (arith, few, is.columns, is.east)) in
     let y0 = within 0 255 b.y0 (omega arith) (omega (arith, few, is.rows, is.north)) in
@@ -95,10 +98,10 @@ all_none_of f [] h = tt
 all_none_of f (x ∷ xs) h = (h x, all_none_of f xs h)
 
 blocks_fit : (number size : ℕ) → IsSize size → key_outside (document number size) Blocks ≡ None
-unfolding document rows_at
+unfolding document number_at rows_at
 blocks_fit number size is =
-    let each : (k : ℕ) → first_outside (coordinate ∷ coordinate ∷ coordinate ∷ coordinate ∷ range (pos 0) (pos 1073741824) ∷ []) (block_numbers (block number size k)) ≡ None = λ k. block_fits size (block number size k) is.greatest (blocks_inside number size k is) in
-    let none = none_first (map (λ k. first_outside (coordinate ∷ coordinate ∷ coordinate ∷ coordinate ∷ range (pos 0) (pos 1073741824) ∷ []) (block_numbers (block number size k))) (range_with_len 0 8)) (all_none_of _ (range_with_len 0 8) each) in
+    let each : (k : ℕ) → first_outside (ranges_of Blocks) (block_row (block number size k)) ≡ None = λ k. block_fits size (block number size k) is.greatest (blocks_inside number size k is) in
+    let none = none_first (map (λ k. first_outside (ranges_of Blocks) (block_row (block number size k))) (range_with_len 0 8)) (all_none_of _ (range_with_len 0 8) each) in
     ap (option_map (λ z. OutOfRange Blocks z)) none
 
 ranges_fit : (number size : ℕ) → number < 2 ^ 32 → IsSize size → out_of_range (document number size) ≡ None
@@ -131,7 +134,7 @@ ranges_fit number size small is =
                             refl,
                             (
                               refl,
-                              (blocks_fit number size is, (refl, (refl, (refl, tt)))),
+                              (blocks_fit number size is, (refl, (refl, (refl, (refl, tt))))),
                             ),
                           ),
                         ),
@@ -165,7 +168,7 @@ sides_clean : (number size : ℕ) → option_and_then sides_differ (numbers_at 4
 unfolding document numbers_at
 sides_clean number size = refl
 
-pub block_inside : (size : ℕ) (b : Block) → LiesInside size b → is_inside (pos size ∷ pos size ∷ []) (block_numbers b) ≡ true
+pub block_inside : (size : ℕ) (b : Block) → LiesInside size b → is_inside (pos size ∷ pos size ∷ []) (block_row b) ≡ true
 block_inside size b is =
     let columns : int_le (pos b.x0) (pos b.x1) ≡ true = grind (arith, nat_tests, is.columns) in
     let rows : int_le (pos b.y0) (pos b.y1) ≡ true = grind (arith, nat_tests, is.rows) in
@@ -173,10 +176,10 @@ block_inside size b is =
     let north : int_lt (pos b.y1) (pos size) ≡ true = grind (arith, nat_tests, is.north) in
     rw (columns, rows, east, north) refl
 
-blocks_clean : (number size : ℕ) → IsSize size → option_and_then (λ cells. option_and_then (block_outside cells) (rows_at 5 (document number size) Blocks)) (numbers_at 2 (document number size) Cells) ≡ None
-unfolding document numbers_at rows_at
+blocks_clean : (number size : ℕ) → IsSize size → option_and_then (λ cells. option_and_then (block_outside cells) (rows_at (version_in (document number size)) (document number size) Blocks)) (numbers_at 2 (document number size) Cells) ≡ None
+unfolding document number_at numbers_at rows_at
 blocks_clean number size is =
-    let each : (k : ℕ) → is_inside (pos size ∷ pos size ∷ []) (block_numbers (block number size k)) ≡ true = λ k. block_inside size (block number size k) (blocks_inside number size k is) in
+    let each : (k : ℕ) → is_inside (pos size ∷ pos size ∷ []) (block_row (block number size k)) ≡ true = λ k. block_inside size (block number size k) (blocks_inside number size k is) in
     rw (each 0, each 1, each 2, each 3, each 4, each 5, each 6, each 7) refl
 
 tags_clean : (number size : ℕ) → option_and_then (λ levels. option_and_then (tag_count levels) (integers_at (document number size) Tag)) (number_at (document number size) MaxLevel) ≡ None
@@ -189,6 +192,10 @@ blocking_clean number size =
     let whole : size % 1 ≡ 0 = omega arith in
     rw whole refl
 
+species_clean : (number size : ℕ) → option_and_then (λ many. option_and_then (species_outside many) (rows_at (version_in (document number size)) (document number size) Blocks)) (number_at (document number size) Species) ≡ None
+unfolding document number_at rows_at
+species_clean number size = refl
+
 -- ---- the judgement
 
 table_clean : (number size : ℕ) → number < 2 ^ 32 → IsSize size → fault_in (document number size) ≡ None
@@ -197,12 +204,13 @@ table_clean number size small is =
     let cells = numbers_at 2 t Cells in
     let faults : List (Option ProblemFault) = unknown_key t ∷ missing_key t ∷ wrong_kind t ∷ out_of_range t ∷ courant_fault t
     ∷ option_and_then sides_differ (numbers_at 4 t Sides)
-    ∷ option_and_then (λ cells. option_and_then (block_outside cells) (rows_at 5 t Blocks)) cells
+    ∷ option_and_then (λ cells. option_and_then (block_outside cells) (rows_at (version_in t) t Blocks)) cells
     ∷ option_and_then (λ levels. option_and_then (tag_count levels) (integers_at t Tag)) (number_at t MaxLevel)
-    ∷ option_and_then (λ cells. option_and_then (blocking_misfit cells) (number_at t Blocking)) cells ∷ [] in
+    ∷ option_and_then (λ cells. option_and_then (blocking_misfit cells) (number_at t Blocking)) cells
+    ∷ option_and_then (λ many. option_and_then (species_outside many) (rows_at (version_in t) t Blocks)) (number_at t Species) ∷ [] in
     let are : AllNone faults = (
       unknown number size,
-      (missing number size, (wrong number size, (ranges_fit number size small is, (courant_clean number size, (sides_clean number size, (blocks_clean number size is, (tags_clean number size, (blocking_clean number size, tt)))))))),
+      (missing number size, (wrong number size, (ranges_fit number size small is, (courant_clean number size, (sides_clean number size, (blocks_clean number size is, (tags_clean number size, (blocking_clean number size, (species_clean number size, tt))))))))),
     ) in
     none_first faults are
 

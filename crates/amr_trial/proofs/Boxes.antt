@@ -45,7 +45,7 @@ cells_small p l coarse =
     let all : p.nx * p.ny * 4 ^ l ≤ 256 * 256 * 4 ^ 3 = mul-le-mul area power in
     all
 
--- of levels that stand on one another, each has at most as many as the level below has cells
+-- of levels that stand on one another, each has at most as many as the next coarser level has cells
 finer_few : (p : Problem) (n l : ℕ) (below : defined.Level) (ks : List defined.Level) → IsTower p n l below ks → l + length ks ≤ 4 → sum_by boxes_in ks ≤ length ks * 4194304
 finer_few p n l below [] tower deep = omega arith
 finer_few p n l below (k ∷ ks) tower deep =

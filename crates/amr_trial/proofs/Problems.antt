@@ -1,6 +1,6 @@
 -- The text of a trial is a problem.
-use Rattle.std.proofs.Common.{◌≡◌, ◌≤◌, ◌<◌, ◌^◌, ◌+◌, max, ℕ, pos, true, nat_le, nat_lt, le-leb, lt-ltb, [], ◌∷◌, length, refl, sym, subst, arith}
-use Rattle.std.specs.List.{list_all}
+use Rattle.std.proofs.Common.{◌≡◌, ◌∙◌, ◌≤◌, ◌<◌, ◌^◌, ◌+◌, ◌*◌, max, ℕ, ℤ, pos, true, nat_le, nat_lt, le-leb, lt-ltb, List, [], ◌∷◌, map, length, refl, sym, ap, subst, arith}
+use Rattle.std.specs.List.{list_all, range_with_len}
 use Rattle.std.specs.Prelude.{Some}
 use Rattle.std.proofs.lemmas.Int.{ints}
 use Rattle.toml.specs.Data.{Members}
@@ -8,14 +8,16 @@ use Rattle.amr_problem.specs.declared.key.Key.TheVariants.{Steps}
 use Rattle.amr_def.specs.declared.problem.Problem.{Problem}
 use Rattle.amr_def.specs.declared.problem.Block.{Block}
 use Rattle.amr_def.specs.declared.problem.Sides.TheVariants.{Periodic, Open}
-use Rattle.amr_def.specs.Limits.{Limits, is_block}
+use Rattle.amr_def.specs.Limits.{Limits, is_block, is_of_species_below}
 use Rattle.amr_problem.specs.Document.{table_of}
 use Rattle.amr_problem.specs.Judgement.{HasKeys, IsProblemOf}
 use Rattle.amr_problem.specs.Values.{integers_at, number_at, numbers_at, rows_at, shear_at, text_at}
 use Rattle.amr_trial.specs.Document.{document, trial_name}
 use Rattle.amr_trial.specs.Laws.{LiesInside, TextsAreAccepted}
-use Rattle.amr_trial.specs.Trial.{IsSize, block, blocks, courant_x, courant_y, text}
-use Rattle.amr_trial.proofs.Accepted.{is_document, no_fault}
+use Rattle.amr_problem.specs.Fields.{block_numbers}
+use Rattle.amr_trial.specs.Generator.{after}
+use Rattle.amr_trial.specs.Trial.{IsSize, block, block_from, blocks, courant_x, courant_y, text}
+use Rattle.amr_trial.proofs.Accepted.{block_row, is_document, no_fault}
 use Rattle.amr_trial.proofs.Inside.{blocks_inside, courant_below}
 use Rattle.amr_trial.proofs.NameTexts.{trial_name_bytes}
 use Rattle.amr_trial.proofs.ShortTexts.{name_short}
@@ -36,8 +38,17 @@ blocks_are number size is =
     let each : (k : ℕ) → is_block size size (block number size k) ≡ true = λ k. block_is size (block number size k) (blocks_inside number size k is) in
     rw (each 0, each 1, each 2, each 3, each 4, each 5, each 6, each 7) refl
 
+species_is : (size state : ℕ) → (block_from size state).species ≡ 0
+unfolding block_from
+species_is size state = refl
+
+blocks_are_of_one : (number size : ℕ) → list_all (is_of_species_below 1) (blocks number size) ≡ true
+blocks_are_of_one number size =
+    let each : (k : ℕ) → (block number size k).species ≡ 0 = λ k. species_is size (after (5 * k) (after 2 number)) in
+    rw (each 0, each 1, each 2, each 3, each 4, each 5, each 6, each 7) refl
+
 abbrev LimitsOfTrial : ℕ → ℕ → Type 0
-LimitsOfTrial number size = Limits 1 (trial_name number size) size size 16 (pos (courant_x number)) (pos (courant_y number)) 8 [] [] Periodic (Open 0 0) 2 (64 ∷ 16 ∷ []) 1 70 2 2 2 16 (blocks number size)
+LimitsOfTrial number size = Limits 1 (trial_name number size) size size 16 (pos (courant_x number)) (pos (courant_y number)) 8 [] [] Periodic (Open 0 0) 2 (64 ∷ 16 ∷ []) 1 70 2 2 2 16 (blocks number size) 1
 
 limits : (number size : ℕ) → number < 2 ^ 32 → IsSize size → LimitsOfTrial number size
 limits number size small is =
@@ -86,6 +97,9 @@ limits number size small is =
       even_max_grid_size = refl;
       block_count = omega arith;
       blocks_inside = blocks_are number size is;
+      some_species = omega arith;
+      few_species = omega arith;
+      blocks_species = blocks_are_of_one number size;
     }
 
 -- ---- the problem
@@ -113,8 +127,17 @@ problem number size limits = record {
   blocking = 2;
   max_grid_size = 16;
   blocks = blocks number size;
+  species = 1;
   limits = limits;
 }
+
+rows_are : (number size : ℕ) (ks : List ℕ) → map (λ k. block_row (block number size k)) ks ≡ map (λ k. block_numbers (block number size k)) ks
+rows_are number size [] = refl
+rows_are number size (k ∷ ks) =
+    let b = block number size k in
+    let none = sym (species_is size (after (5 * k) (after 2 number))) in
+    ap (λ (s : ℕ). (pos b.x0 ∷ pos b.y0 ∷ pos b.x1 ∷ pos b.y1 ∷ pos b.mass ∷ pos s ∷ []) ∷ map (λ k. block_row (block number size k)) ks) none
+    ∙ ap (λ (rows : List (List ℤ)). block_numbers b ∷ rows) (rows_are number size ks)
 
 has_keys : (number size : ℕ) (limits : LimitsOfTrial number size) → HasKeys (document number size) (problem number size limits)
 unfolding document number_at text_at numbers_at integers_at rows_at shear_at
@@ -132,10 +155,11 @@ has_keys number size limits = record {
   min_width = refl;
   regrid_int = refl;
   max_grid_size = refl;
-  blocks = refl;
+  blocks = ap Some (rows_are number size (range_with_len 0 8));
   shear_x = refl;
   shear_y = refl;
   blocking = refl;
+  species = refl;
 }
 
 is_table : (number size : ℕ) → number < 2 ^ 32 → IsSize size → table_of (text number size) ≡ document number size

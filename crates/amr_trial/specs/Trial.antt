@@ -31,6 +31,7 @@ block_from size state =
       x1 = min (x + draw state 2 (size / 4)) (size - 1);
       y1 = min (y + draw state 3 (size / 4)) (size - 1);
       mass = draw state 4 4096;
+      species = 0;
     }
 
 -- block k, counted from 0, of a trial: its draws come after the two Courant numbers and the blocks before it

@@ -33,6 +33,7 @@ fn draw_block(generator: &mut Generator, size: u32) -> Block
         x1: (x0 + width).min(size - 1),
         y1: (y0 + height).min(size - 1),
         mass: u64::from(mass),
+        species: 0,
     }
 }
 

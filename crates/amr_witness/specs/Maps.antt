@@ -13,7 +13,7 @@ use Rattle.amr_witness.specs.declared.Plain.{Plain}
 abbrev pub masses_of : BTreeMap Cell ℕ → Masses
 masses_of m c = get cell_cmp m c
 
--- of the level below, where there is one
+-- of the next coarser level, where there is one
 abbrev pub old_of : Option (Bor (BTreeMap Cell ℕ)) → Masses
 old_of None = no_masses
 old_of (Some m) = masses_of m.now

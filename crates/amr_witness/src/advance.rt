@@ -39,7 +39,7 @@ pub fn slow_step(alloc: Global, p: &Problem, state: &Plain) -> Result<Plain, NoM
     })
 }
 
-/// The levels from `level` on after a step, the coarsest first; `old` is what the level below held at
+/// The levels from `level` on after a step, the coarsest first; `old` is what the next coarser one held at
 /// the start of its step.
 #[cycle(step)]
 pub fn step_levels(

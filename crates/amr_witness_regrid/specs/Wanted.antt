@@ -1,4 +1,4 @@
--- The definitions of tags and new boxes, of one level by its masses and those of the level below.
+-- The definitions of tags and new boxes, of one level by its masses and those of the next coarser level.
 use Rattle.std.specs.Prelude.{ℕ, ◌+◌, Bool, ◌&&◌, ◌||◌, List, [], map, slice_index}
 use Rattle.amr_box.specs.declared.Cell.{Cell}
 use Rattle.amr_box.specs.Cells.{Extent, moved}

@@ -58,7 +58,7 @@ fn masses_at(levels: &[PlainLevel], level: u32) -> &Masses
     &levels[level as usize].masses
 }
 
-/// The masses of the level below one, none below level 0.
+/// The masses of the next coarser level than one, none below level 0.
 fn masses_below(levels: &[PlainLevel], level: u32) -> Option<&Masses>
     requires { level < length levels.now }
     ensures { old_of result ≡ masses_below (with_levels levels.now) level }

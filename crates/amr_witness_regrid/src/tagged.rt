@@ -20,7 +20,7 @@ pub struct LevelMasses<'a> {
     pub level: u32,
     /// Its masses.
     pub masses: &'a Masses,
-    /// Those of the level below it, none below level 0.
+    /// Those of the next coarser level, none below level 0.
     pub coarse: Option<&'a Masses>,
 }
 

@@ -14,7 +14,7 @@ use Rattle.amr_patch.specs.Patches.{ArePatchesApart, KeepsFrameAndFluxes, box, m
 use Rattle.amr_patch.proofs.Keeping.{kept_apart, kept_boxes, kept_order}
 use Rattle.amr_register.specs.declared.register.Register.{Register}
 use Rattle.amr_register.specs.Entries.{with_entries}
-use Rattle.amr_register.specs.Registers.{HasEdgesOf, cells_in, entry_in}
+use Rattle.amr_register.specs.Fields.{HasEdgesOf, cells_in, entry_in}
 use Rattle.amr_transfer.specs.Sums.{summed}
 use Rattle.amr_lots.specs.Correcting.{FitsEntries, finer_in, register_in}
 use Rattle.amr_advance.specs.Lots.{StillServe}

@@ -1,6 +1,6 @@
 use Rattle.std.proofs.Common.{◌*◌, ◌+◌, ◌<◌, length, refl, ap, arith}
 use Rattle.std.specs.Prelude.{slice_index}
-use Rattle.amr_register.specs.Registers.{cells_in}
+use Rattle.amr_register.specs.Fields.{cells_in}
 use Rattle.amr_advance.proofs.Absorbed.{above, below, none_absorbed, one_absorbed}
 use Rattle.amr_advance.proofs.registers.absorb_totals.Goals as goal
 

@@ -8,7 +8,7 @@ use Rattle.amr_patch.specs.Levels.{level_of, patches_of}
 use Rattle.amr_patch.specs.Patches.{box}
 use Rattle.amr_register.specs.declared.register.Register.{Register}
 use Rattle.amr_register.specs.Entries.{with_entries}
-use Rattle.amr_register.specs.Registers.{HasEdgesOf, IsPlaced}
+use Rattle.amr_register.specs.Fields.{HasEdgesOf, IsPlaced}
 use Rattle.amr_transfer.specs.Sums.{summed}
 use Rattle.amr_advance.specs.Registers.{cells_of}
 use Rattle.amr_cycle.specs.Cycles.{entries_of}

@@ -1,7 +1,7 @@
 use Rattle.std.proofs.Common.{List, sym, subst}
 use Rattle.amr_box.specs.Cells.{Extent}
 use Rattle.amr_patch.specs.Levels.{level_of}
-use Rattle.amr_register.specs.Registers.{HasEdgesOf}
+use Rattle.amr_register.specs.Fields.{HasEdgesOf}
 use Rattle.amr_alike.proofs.SameBoxes.{some_in_boxes}
 use Rattle.amr_cycle.proofs.kept.make_below.Goals as goal
 

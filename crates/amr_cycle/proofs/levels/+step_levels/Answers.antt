@@ -12,7 +12,7 @@ use Rattle.amr_ghost.specs.Frames.{old_masses}
 use Rattle.amr_def.specs.State.{Level, Masses}
 use Rattle.amr_register.specs.declared.register.Register.{Register}
 use Rattle.amr_register.specs.Entries.{with_entries}
-use Rattle.amr_register.specs.Registers.{HasEdgesOf}
+use Rattle.amr_register.specs.Fields.{HasEdgesOf}
 use Rattle.amr_transfer.specs.Sums.{summed}
 use Rattle.amr_cycle.specs.Cycles.{entries_of}
 use Rattle.amr_cycle.specs.declared.kept.KeptBelow.{KeptBelow}

@@ -14,7 +14,7 @@ use Rattle.amr_box.specs.Cells.{Extent}
 use Rattle.amr_patch.specs.declared.levels.Level.{Level as Held}
 use Rattle.amr_patch.specs.Levels.{level_of, patches_of}
 use Rattle.amr_patch.specs.Patches.{box}
-use Rattle.amr_register.specs.Registers.{HasEdgesOf}
+use Rattle.amr_register.specs.Fields.{HasEdgesOf}
 use Rattle.amr_ghost.specs.Frames.{old_masses}
 use Rattle.amr_cycle.proofs.Cycling.{coarse_fits, coarse_level, coarse_nested, fine_level}
 use Rattle.amr_cycle.proofs.Registers.{edges_stay, has_finer, lost}

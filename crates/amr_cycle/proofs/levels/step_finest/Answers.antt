@@ -8,7 +8,7 @@ use Rattle.amr_patch.specs.Levels.{level_of, patches_of}
 use Rattle.amr_patch.specs.Patches.{box}
 use Rattle.amr_ghost.specs.Frames.{old_masses}
 use Rattle.amr_register.specs.declared.register.Register.{Register}
-use Rattle.amr_register.specs.Registers.{HasEdgesOf}
+use Rattle.amr_register.specs.Fields.{HasEdgesOf}
 use Rattle.amr_advance.specs.Registers.{HasFiner}
 use Rattle.amr_flows.proofs.SubcycleSteps.{of_level_alone}
 use Rattle.amr_cycle.proofs.Cycling.{alone_after, part_fits, part_levels}

@@ -1,5 +1,5 @@
 use Rattle.amr_patch.specs.Patches.{masses_in}
-use Rattle.amr_register.specs.Registers.{entry_in}
+use Rattle.amr_register.specs.Fields.{entry_in}
 use Rattle.amr_lots.specs.Correcting.{IsCorrected, finer_in, register_in}
 use Rattle.amr_lots.proofs.InPlaces.{AreChangedTo}
 use Rattle.amr_lots.proofs.duties.correct_patches.Given as goal

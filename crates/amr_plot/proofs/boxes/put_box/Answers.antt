@@ -1,26 +1,50 @@
-use Rattle.std.proofs.Common.{◌++◌, ℕ, List, ap}
-use Rattle.std.specs.List.{flat_map, range_with_len}
+use Rattle.std.proofs.Common.{◌≡◌, ◌++◌, ℕ, List, length, sym, ap, subst, ◌∙◌, arith}
 use Rattle.amr_box.specs.Cells.{height}
-use Rattle.amr_def.specs.Plot.{box_text, mass_line}
-use Rattle.amr_patch.specs.Levels.{level_of}
-use Rattle.amr_plot.proofs.Putting.{puts_first, puts_same, puts_then}
+use Rattle.amr_def.specs.Plot.{box_line}
+use Rattle.amr_plot.specs.BoxParts.{some_rows}
+use Rattle.amr_plot.specs.Texts.{texts}
+use Rattle.amr_plot.proofs.BoxTexts.{box_is, first_species, next_species, no_species, species_within}
+use Rattle.amr_plot.proofs.Pens.{puts_first, puts_same, puts_stop, puts_whole, wrote_same}
 use Rattle.amr_plot.proofs.boxes.put_box.Goals as goal
 
-pub returns-in_err-put_line : goal.returns-in_err-put_line
-unfolding box_text
-returns-in_err-put_line g c =
+pub returns-in_err-put_fragments : goal.returns-in_err-put_fragments
+returns-in_err-put_fragments g c =
+    let k = c.args.layer in
     let b = c.args.b.now in
-    let rows : List ℕ = flat_map (mass_line (level_of c.args.level.now).masses b) (range_with_len 0 (height b)) in
-    let e = c.in_err-put_line.ensures in
-    puts_same g.O.Sink.holds g.O.Sink.faults c.args.sink.now c.put_line.new.sink c.args.text.now c.put_line.new.text _ _ c.from_residual.result (ap (λ (t : List ℕ). t ++ rows) c.box_row.ensures)
-    (puts_first g.O.Sink.holds g.O.Sink.faults c.args.sink.now c.put_line.new.sink c.args.text.now c.put_line.new.text _ rows c.from_residual.result c.from_residual.ensures.0 e.part e.cause.later e.cause.failed)
+    let rest = texts (λ s. some_rows k b s 0 (height b)) (length k.meshes.now) in
+    puts_same g.met.P.Pen.laws c.args.pen.now c.put_fragments.new.self _ _ c.from_residual.result
+    (ap (λ (t : List ℕ). t ++ rest) c.box_row.ensures ∙ box_is k b)
+    (puts_first g.met.P.Pen.laws c.args.pen.now c.put_fragments.new.self _ rest c.from_residual.result c.from_residual.ensures.0 c.in_err-put_fragments.ensures.part)
+
+pub loop-species-preserved : goal.loop-species-preserved
+loop-species-preserved g c =
+    let k = c.args.layer in
+    let b = c.args.b.now in
+    let l = c.loop-species in
+    let rows : some_rows k b l.species 0 c.height-height.result ≡ some_rows k b l.species 0 (height b) = ap (some_rows k b l.species 0) c.height-height.ensures.value in
+    wrote_same g.met.P.Pen.laws c.args.pen.now c.put_some_rows.new.pen _ _ (sym (next_species k b l.species))
+    (g.met.P.Pen.laws.more c.args.pen.now l.pen c.put_some_rows.new.pen _ _ l.invariant
+    (wrote_same g.met.P.Pen.laws l.pen c.put_some_rows.new.pen _ _ rows c.in_ok-put_some_rows.ensures.whole))
+
+pub put_some_rows-requires-clause-within : goal.put_some_rows-requires-clause-within
+put_some_rows-requires-clause-within g c = omega (arith, c.height-height.ensures.value)
+
+pub returns-in_err-put_some_rows : goal.returns-in_err-put_some_rows
+returns-in_err-put_some_rows g c =
+    let k = c.args.layer in
+    let b = c.args.b.now in
+    let l = c.loop-species in
+    let rows : some_rows k b l.species 0 c.height-height.result ≡ some_rows k b l.species 0 (height b) = ap (some_rows k b l.species 0) c.height-height.ensures.value in
+    puts_stop g.met.P.Pen.laws c.args.pen.now l.pen c.put_some_rows.new.pen (first_species k b l.species) (some_rows k b l.species 0 (height b)) _
+    c.from_residual-in_err-put_some_rows.result c.from_residual-in_err-put_some_rows.ensures.0
+    (species_within k b l.species c.loop-species-test.true) l.invariant
+    (subst (g.P.Pen.failed l.pen c.put_some_rows.new.pen) rows c.in_err-put_some_rows.ensures.part)
 
 pub returns : goal.returns
-unfolding box_text
 returns g c =
+    let k = c.args.layer in
     let b = c.args.b.now in
-    let f : ℕ → List ℕ = mass_line (level_of c.args.level.now).masses b in
-    let e = c.in_ok-put_line.ensures in
-    puts_same g.O.Sink.holds g.O.Sink.faults c.args.sink.now c.put_rows.new.sink c.args.text.now c.put_rows.new.text _ _ c.put_rows.result
-    (λ i. c.box_row.ensures i ++ flat_map f (range_with_len 0 (c.height.ensures.value i)))
-    (puts_then g.O.Sink.holds g.O.Sink.faults c.args.sink.now c.put_line.new.sink c.put_rows.new.sink c.args.text.now c.put_line.new.text c.put_rows.new.text _ _ c.put_rows.result e.sent e.no_fault c.put_rows.ensures)
+    let l = c.loop-species in
+    let all : l.species ≡ length k.meshes.now = omega (arith, l.auto.species-end, c.loop-species-test.false) in
+    puts_whole g.met.P.Pen.laws c.args.pen.now l.pen _ tt
+    (wrote_same g.met.P.Pen.laws c.args.pen.now l.pen _ _ (ap (first_species k b) all ∙ box_is k b) l.invariant)

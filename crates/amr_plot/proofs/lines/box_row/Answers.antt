@@ -2,26 +2,27 @@ use Rattle.std.proofs.Common.{◌≡◌, pos, arith}
 use Rattle.std.proofs.lemmas.Int.{ints}
 use Rattle.amr_patch.proofs.Corners.{corners}
 use Rattle.amr_plot.proofs.Fragments.{box_fragments}
+use Rattle.amr_plot.proofs.Layers.{fine}
 use Rattle.amr_plot.proofs.lines.box_row.Goals as goal
 
 pub number-requires : goal.number-requires
 number-requires c =
-    let k = corners c.args.p.now c.args.l c.args.b.now c.requires.fine c.lo-lo.ensures.proper c.requires.inside in
+    let k = corners c.args.layer.problem.now c.args.layer.l c.args.b.now (fine c.args.layer c.requires.layer) c.lo-lo.ensures.proper c.requires.of_layer.inside in
     omega (arith, ints, k.west, c.lo-lo.ensures.x)
 
 pub number-requires-2 : goal.number-requires-2
 number-requires-2 c =
-    let k = corners c.args.p.now c.args.l c.args.b.now c.requires.fine c.lo-lo.ensures.proper c.requires.inside in
+    let k = corners c.args.layer.problem.now c.args.layer.l c.args.b.now (fine c.args.layer c.requires.layer) c.lo-lo.ensures.proper c.requires.of_layer.inside in
     omega (arith, ints, k.south, c.lo-lo.ensures.y)
 
 pub number-requires-3 : goal.number-requires-3
 number-requires-3 c =
-    let k = corners c.args.p.now c.args.l c.args.b.now c.requires.fine c.lo-lo.ensures.proper c.requires.inside in
+    let k = corners c.args.layer.problem.now c.args.layer.l c.args.b.now (fine c.args.layer c.requires.layer) c.lo-lo.ensures.proper c.requires.of_layer.inside in
     omega (arith, ints, k.east, c.hi-hi.ensures.x)
 
 pub number-requires-4 : goal.number-requires-4
 number-requires-4 c =
-    let k = corners c.args.p.now c.args.l c.args.b.now c.requires.fine c.lo-lo.ensures.proper c.requires.inside in
+    let k = corners c.args.layer.problem.now c.args.layer.l c.args.b.now (fine c.args.layer c.requires.layer) c.lo-lo.ensures.proper c.requires.of_layer.inside in
     omega (arith, ints, k.north, c.hi-hi.ensures.y)
 
 pub returns : goal.returns

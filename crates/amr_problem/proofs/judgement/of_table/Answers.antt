@@ -3,7 +3,8 @@ use Rattle.std.specs.Option.{option_or}
 use Rattle.toml.specs.View.{table_view}
 use Rattle.amr_problem.specs.Faults.{unknown_key, missing_key, fault_in}
 use Rattle.amr_problem.specs.Entries.{entry_fault}
-use Rattle.amr_problem.proofs.JudgementLaws.{fault_in-entries, has_keys, has_shears}
+use Rattle.amr_problem.proofs.FirstSome.{both_none}
+use Rattle.amr_problem.proofs.JudgementLaws.{fault_in-entries, fits_basics, has_keys}
 use Rattle.amr_problem.proofs.judgement.of_table.Goals as goal
 
 IfOk-from_OnOk : {T E P Q : Type 0} (r : Result T E) → OnOk r P → (P → Q) → IfOk r (λ _. Q)
@@ -15,7 +16,10 @@ IfOk-map (Ok x) p f = f x p
 IfOk-map (Err e) p f = tt
 
 pub of_entries-requires : goal.of_entries-requires
-of_entries-requires c = has_shears (table_view c.args.table.now) c.in_ok-read.field-0 c.in_ok-read.ensures.read
+of_entries-requires c =
+    let table = table_view c.args.table.now in
+    let known = both_none (unknown_key table) (missing_key table) (sym c.in_ok-fault.ensures ∙ c.in_default.is) in
+    fits_basics table c.in_ok-read.field-0 known.first c.in_ok-read.ensures.read
 
 same : (c : goal.After-of_entries) → fault_in (table_view c.args.table.now) ≡ entry_fault c.in_ok-read.field-0
 same c =

@@ -5,7 +5,7 @@ use Rattle.amr_problem.proofs.RangeLaws.{holds-IsIn}
 use Rattle.amr_problem.specs.Fields.{AreValues}
 use Rattle.amr_problem.proofs.ProblemLaws.{has_limits}
 use Rattle.amr_problem.proofs.problem.problem.Goals as goal
-use Rattle.amr_problem.proofs.problem.problem.Goals.{After-make-5}
+use Rattle.amr_problem.proofs.problem.problem.Goals.{After-small-13}
 
 pub small-requires-clause-greatest : goal.small-requires-clause-greatest
 small-requires-clause-greatest c = rw (to_z-of_z w64 c.args.entries.basics.version (search rules)) (omega (arith, ints, c.requires.clean.in_range.basics.greatest_version))
@@ -63,8 +63,14 @@ small-requires-11-clause-greatest c =
     let high : b ≤ℤ pos 8 = within.greatest in
     rw (to_z-of_z w64 b (search rules)) (omega (arith, ints))
 
+pub small-requires-13-clause-least : goal.small-requires-13-clause-least
+small-requires-13-clause-least c = rw (to_z-of_z w64 c.args.entries.overlay.species (search rules)) (omega (arith, ints, c.requires.clean.in_range.overlay.least_species))
+
+pub small-requires-13-clause-greatest : goal.small-requires-13-clause-greatest
+small-requires-13-clause-greatest c = rw (to_z-of_z w64 c.args.entries.overlay.species (search rules)) (omega (arith, ints, c.requires.clean.in_range.overlay.greatest_species))
+
 -- the fields are what the entries say
-values : (c : After-make-5) → AreValues c.args.entries c.small.result c.make.result c.small-2.result c.small-3.result c.small-4.result c.signed.result c.signed-2.result c.small-5.result c.make-2.result c.make-3.result c.sides.result c.sides-2.result c.small-6.result c.make-4.result c.small-7.result c.small-8.result c.small-9.result c.small-10.result c.small-11.result c.small-12.result c.make-5.result
+values : (c : After-small-13) → AreValues c.args.entries c.small.result c.make.result c.small-2.result c.small-3.result c.small-4.result c.signed.result c.signed-2.result c.small-5.result c.make-2.result c.make-3.result c.sides.result c.sides-2.result c.small-6.result c.make-4.result c.small-7.result c.small-8.result c.small-9.result c.small-10.result c.small-11.result c.small-12.result c.make-5.result c.small-13.result
 values c =
     let b = c.args.entries.basics in
     let r = c.args.entries.refining in
@@ -91,11 +97,12 @@ values c =
       shear_x_is = sym (c.make-2.ensures ∙ c.in_ok-shear_x.ensures ∙ c.as_slice-3.ensures.value);
       shear_y_is = sym (c.make-3.ensures ∙ c.in_ok-shear_y.ensures ∙ c.as_slice-4.ensures.value);
       blocking_is = rw (to_z-of_z w64 o.blocking (search rules)) at c.small-11.ensures;
+      species_is = rw (to_z-of_z w64 o.species (search rules)) at c.small-13.ensures;
     }
 
 pub invariant_of-result : goal.invariant_of-result
 invariant_of-result c =
-    rw (to_z-of_z w32 c.signed.result (search rules), to_z-of_z w32 c.signed-2.result (search rules)) (record { limits = has_limits c.args.entries c.requires.clean c.requires.shears (values c) })
+    rw (to_z-of_z w32 c.signed.result (search rules), to_z-of_z w32 c.signed-2.result (search rules)) (record { limits = has_limits c.args.entries c.requires.clean c.requires.fits (values c) })
 
 pub returns : goal.returns
-returns c = rw (to_z-of_z w32 c.signed.result (search rules), to_z-of_z w32 c.signed-2.result (search rules)) (values (goal.at.returns c).After-make-5)
+returns c = rw (to_z-of_z w32 c.signed.result (search rules), to_z-of_z w32 c.signed-2.result (search rules)) (values (goal.at.returns c).After-small-13)

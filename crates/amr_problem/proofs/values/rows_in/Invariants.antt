@@ -4,5 +4,5 @@ use Rattle.amr_problem.specs.Values.{rows_in}
 use Rattle.amr_problem.proofs.values.rows_in.Given as goal
 
 abbrev pub invariant-loop-item : goal.invariant-loop-item
-invariant-loop-item g l =
-    rows_in g.row.N (items_view l.items) ≡ option_map (λ rest. l.rows.items ++ rest) (rows_in g.row.N (items_view (drop l.item-index l.items)))
+invariant-loop-item l =
+    rows_in l.version (items_view l.items) ≡ option_map (λ rest. l.rows.items ++ rest) (rows_in l.version (items_view (drop l.item-index l.items)))

@@ -1,41 +1,47 @@
-use Rattle.std.proofs.Common.{◌∙◌, List, sym, ap, subst}
-use Rattle.amr_def.specs.Facts.{IsHeld, IsSound}
-use Rattle.amr_def.specs.State.{State}
-use Rattle.amr_laws.proofs.Held.{regrid-held}
-use Rattle.amr_laws.proofs.SoundRegrid.{regrid-sound}
-use Rattle.amr_patch.specs.declared.levels.Level.{Level}
-use Rattle.amr_patch.specs.Meshes.{levels_of, state_of}
-use Rattle.amr_regrid.specs.Outlines.{outlines}
-use Rattle.amr_regrid.specs.Remade.{AreChoppedOrKept}
-use Rattle.amr_regrid.proofs.MeshRegrids.{as_before, is_regrid}
-use Rattle.amr_regrid.proofs.OutlineLaws.{all_chopped}
+use Rattle.std.proofs.Common.{◌∙◌, sym, ap}
+use Rattle.std.proofs.lemmas.Slice.Zip.{AllZip-long}
+use Rattle.amr_regrid.specs.Outlines.{lists_in, shared_boxes}
+use Rattle.amr_regrid.specs.Plans.{IsPlanFor}
+use Rattle.amr_regrid.proofs.MeshOutlines.{all_whole, alike_stays, same_states}
+use Rattle.amr_regrid.proofs.MeshRegrids.{plan_rooms, alike_after, chopped_after, held_after, patches_after, value_after, whole_after}
 use Rattle.amr_regrid.proofs.regrids.regrid_by.Goals as goal
 
-pub regrid_levels-requires-clause-sound : goal.regrid_levels-requires-clause-sound
-regrid_levels-requires-clause-sound g c = record { state = state_of c.args.mesh.now; levels_are = sym c.take-rows.ensures.levels; sound = c.requires.sound }
+pub plans-requires-clause-meshes : goal.plans-requires-clause-meshes
+plans-requires-clause-meshes g c = alike_stays c.args.p.now c.boxes_above.new.meshes c.args.meshes.now c.boxes_above.ensures.outlines c.requires.meshes
 
-pub returns-in-Ok-clause-value : goal.returns-in-Ok-clause-value
-returns-in-Ok-clause-value g c =
-    c.of.ensures.state ∙ is_regrid c.args.p.now (state_of c.args.mesh.now) c.take-rows.result.1.items c.regrid_levels.new.levels.items c.step-step.result c.take-rows.result.0.items c.step-step.ensures c.take-rows.ensures.rows c.take-rows.ensures.levels c.in-Ok.ensures.levels
+pub plans-requires-clause-boxes : goal.plans-requires-clause-boxes
+plans-requires-clause-boxes g c =
+    ap lists_in c.as_slice.ensures.value ∙ c.in_ok-boxes.ensures.boxes ∙ ap (shared_boxes c.args.p.now) (sym (same_states c.boxes_above.new.meshes c.args.meshes.now c.boxes_above.ensures.outlines))
 
-pub returns-in-Ok-clause-sound : goal.returns-in-Ok-clause-sound
-returns-in-Ok-clause-sound g c = subst (λ (s : State). IsSound c.args.p.now s) (sym (returns-in-Ok-clause-value g c)) (regrid-sound c.args.p.now (state_of c.args.mesh.now) c.requires.sound)
+pub install_all-requires-clause-whole : goal.install_all-requires-clause-whole
+install_all-requires-clause-whole g c = all_whole c.boxes_above.new.meshes c.args.meshes.now c.boxes_above.ensures.outlines c.requires.meshes.whole
 
-pub returns-in-Ok-clause-held : goal.returns-in-Ok-clause-held
-returns-in-Ok-clause-held g c = subst (λ (s : State). IsHeld c.args.p.now (state_of c.args.mesh.now) s) (sym (returns-in-Ok-clause-value g c)) (regrid-held c.args.p.now (state_of c.args.mesh.now) c.requires.sound)
+pub install_all-requires-clause-count : goal.install_all-requires-clause-count
+install_all-requires-clause-count g c = AllZip-long (IsPlanFor c.args.p.now (lists_in c.as_slice.result.now)) c.boxes_above.new.meshes c.in_ok-plans.plans.items c.in_ok-plans.ensures
 
-pub returns-in-Ok-clause-chopped_or_kept : goal.returns-in-Ok-clause-chopped_or_kept
-returns-in-Ok-clause-chopped_or_kept g c =
-    let max = c.args.p.now.max_grid_size in
-    subst (λ (ks : List Level). AreChoppedOrKept max ks (outlines (levels_of c.args.mesh.now))) (sym c.of.ensures.levels)
-    (subst (λ (ks : List Level). AreChoppedOrKept max c.regrid_levels.new.levels.items (outlines ks)) c.take-rows.ensures.all c.in-Ok.ensures.patches)
+pub install_all-requires-clause-room : goal.install_all-requires-clause-room
+install_all-requires-clause-room g c = plan_rooms c.args.p.now (lists_in c.as_slice.result.now) c.boxes_above.new.meshes c.in_ok-plans.plans.items c.in_ok-plans.ensures
 
-pub returns-in-Ok-clause-patches : goal.returns-in-Ok-clause-patches
-returns-in-Ok-clause-patches g c = all_chopped c.args.p.now.max_grid_size _ (levels_of c.args.mesh.now) (returns-in-Ok-clause-chopped_or_kept g c)
+pub returns-clause-value : goal.returns-clause-value
+returns-clause-value g c = value_after c.args.p.now c.args.meshes.now c.boxes_above.new.meshes c.install_all.new.meshes c.in_ok-plans.plans.items (lists_in c.as_slice.result.now) c.requires.meshes c.boxes_above.ensures.outlines (ap lists_in c.as_slice.ensures.value ∙ c.in_ok-boxes.ensures.boxes) c.install_all.auto.meshes c.in_ok-plans.ensures c.install_all.ensures
 
-pub returns-in-Err-clause-refused : goal.returns-in-Err-clause-refused
-returns-in-Err-clause-refused g c =
-    c.of-in-Err.ensures.state ∙ as_before (state_of c.args.mesh.now) c.take-rows.result.1.items c.regrid_levels.new.levels.items c.step-step.result c.take-rows.result.0.items c.step-step.ensures c.take-rows.ensures.rows c.take-rows.ensures.levels c.in-Err.ensures.refused
+pub returns-clause-alike : goal.returns-clause-alike
+returns-clause-alike g c = alike_after c.args.p.now c.args.meshes.now c.boxes_above.new.meshes c.install_all.new.meshes c.in_ok-plans.plans.items (lists_in c.as_slice.result.now) c.requires.meshes c.boxes_above.ensures.outlines (ap lists_in c.as_slice.ensures.value ∙ c.in_ok-boxes.ensures.boxes) c.install_all.auto.meshes c.in_ok-plans.ensures c.install_all.ensures
 
-pub returns-in-Err-clause-refused_patches : goal.returns-in-Err-clause-refused_patches
-returns-in-Err-clause-refused_patches g c = ap outlines c.of-in-Err.ensures.levels ∙ c.in-Err.ensures.refused ∙ ap outlines c.take-rows.ensures.all
+pub returns-clause-held : goal.returns-clause-held
+returns-clause-held g c = held_after c.args.p.now c.args.meshes.now c.boxes_above.new.meshes c.install_all.new.meshes c.in_ok-plans.plans.items (lists_in c.as_slice.result.now) c.requires.meshes c.boxes_above.ensures.outlines (ap lists_in c.as_slice.ensures.value ∙ c.in_ok-boxes.ensures.boxes) c.install_all.auto.meshes c.in_ok-plans.ensures c.install_all.ensures
+
+pub returns-clause-chopped_or_kept : goal.returns-clause-chopped_or_kept
+returns-clause-chopped_or_kept g c = patches_after c.args.p.now c.args.meshes.now c.boxes_above.new.meshes c.install_all.new.meshes c.in_ok-plans.plans.items (lists_in c.as_slice.result.now) c.requires.meshes c.boxes_above.ensures.outlines (ap lists_in c.as_slice.ensures.value ∙ c.in_ok-boxes.ensures.boxes) c.install_all.auto.meshes c.in_ok-plans.ensures c.install_all.ensures
+
+pub returns-clause-patches : goal.returns-clause-patches
+returns-clause-patches g c = chopped_after c.args.p.now c.args.meshes.now c.boxes_above.new.meshes c.install_all.new.meshes c.in_ok-plans.plans.items (lists_in c.as_slice.result.now) c.requires.meshes c.boxes_above.ensures.outlines (ap lists_in c.as_slice.ensures.value ∙ c.in_ok-boxes.ensures.boxes) c.install_all.auto.meshes c.in_ok-plans.ensures c.install_all.ensures
+
+pub returns-clause-whole : goal.returns-clause-whole
+returns-clause-whole g c = whole_after c.args.p.now c.args.meshes.now c.boxes_above.new.meshes c.install_all.new.meshes c.in_ok-plans.plans.items (lists_in c.as_slice.result.now) c.requires.meshes c.boxes_above.ensures.outlines (ap lists_in c.as_slice.ensures.value ∙ c.in_ok-boxes.ensures.boxes) c.install_all.auto.meshes c.in_ok-plans.ensures c.install_all.ensures
+
+pub returns-in_err-boxes-clause-whole : goal.returns-in_err-boxes-clause-whole
+returns-in_err-boxes-clause-whole g c = all_whole c.boxes_above.new.meshes c.args.meshes.now c.boxes_above.ensures.outlines c.requires.meshes.whole
+
+pub returns-in_err-plans-clause-whole : goal.returns-in_err-plans-clause-whole
+returns-in_err-plans-clause-whole g c = all_whole c.boxes_above.new.meshes c.args.meshes.now c.boxes_above.ensures.outlines c.requires.meshes.whole

@@ -18,10 +18,10 @@ use Rattle.amr_drive.proofs.Finishes.{finish_sound}
 use Rattle.amr_store.specs.Phases.{OnlyReads}
 use Rattle.amr_run.specs.Kept.{KeptReplies}
 use Rattle.amr_run.specs.Refusals.{keep_refused, resume_refused}
-use Rattle.amr_run.specs.Outcome.{EndsBefore, StopsKept}
+use Rattle.amr_run.specs.Outcome.{EndsAtSource, EndsBefore, StopsKept}
 use Rattle.amr_run.specs.declared.status.Status.{Status}
 use Rattle.amr_run.specs.declared.status.Status.TheVariants.{Done}
-use Rattle.amr_run.proofs.KeptOutcomes.{disk_cause, found_sound, goes_on, is_kept_run, no_disk_cause, no_store, no_write_cause, stops_kept, unkept, unresumed, unresumed_before}
+use Rattle.amr_run.proofs.KeptOutcomes.{disk_cause, found_sound, goes_on, is_kept_run, kept_at_source, no_disk_cause, no_store, no_write_cause, resumed_at_source, stops_kept, unkept, unresumed, unresumed_before}
 use Rattle.amr_run.proofs.StoreOutcomes.{if_told}
 use Rattle.amr_run.proofs.checkpoints.keep_run.Goals as goal
 
@@ -35,12 +35,12 @@ returns-in-Err-clause-outcome g c =
     )
 
 pub run_from-requires-clause-holds : goal.run_from-requires-clause-holds
-run_from-requires-clause-holds g c κs within = λ image told. c.in-Ok.ensures.holds image c.args.keeping.now.problem.now (sym c.in-Ok.ensures.reads.same ∙ told) c.requires.accepted
+run_from-requires-clause-holds g c κs within = λ image told. c.in-Ok.ensures.holds image c.args.keeping.now.problem.now (sym c.in-Ok.ensures.reads.same ∙ told) c.requires.accepted.accepted
 
 pub returns-in-Ok-run_from-clause-sound : goal.returns-in-Ok-run_from-clause-sound
 returns-in-Ok-run_from-clause-sound g c =
     let p = c.args.keeping.now.problem.now in
-    let can = c.in-Ok.ensures.can_go_on p c.requires.accepted in
+    let can = c.in-Ok.ensures.can_go_on p c.requires.accepted.accepted in
     subst (IsSound p) (sym c.in-Ok-run_from.ensures.value) (finish_sound p (state_from p (content_resumed c.args.bytes.now p c.in-Ok.resumed)) c.args.keeping.now.target (found_sound c.args.bytes.now p c.args.keeping.now.target c.in-Ok.resumed can) c.requires.within)
 
 pub returns-in-Ok-run_from-clause-outcome : goal.returns-in-Ok-run_from-clause-outcome
@@ -50,8 +50,8 @@ returns-in-Ok-run_from-clause-outcome g c =
     let p = run.problem in
     let found = content_resumed run.bytes p c.in-Ok.resumed in
     let seen = g.D.Disk.seen c.args.disk.now in
-    let can = c.in-Ok.ensures.can_go_on p c.requires.accepted in
-    let held = if_told (λ image. Holds image found) seen (λ image told. c.in-Ok.ensures.holds image p told c.requires.accepted) in
+    let can = c.in-Ok.ensures.can_go_on p c.requires.accepted.accepted in
+    let held = if_told (λ image. Holds image found) seen (λ image told. c.in-Ok.ensures.holds image p told c.requires.accepted.accepted) in
     let kept = c.in-Ok-run_from.ensures.kept in
     let says = says_of_run run.deltas (at c.resume.new.disk c.args.err.now) (at c.run_from.new.disk c.run_from.new.err) (made_of run found) None (flat_map checkpoint_line (marks run.every found run.target)) kept
     (acknowledges_marks run.bytes p run.every run.target found (goes_on run.bytes p run.target c.in-Ok.resumed can)) in (
@@ -59,7 +59,7 @@ returns-in-Ok-run_from-clause-outcome g c =
       kept.grows,
       is_kept_run run.bytes p run.every run.target seen c.in-Ok.resumed _ kept.said can held c.requires.within (ap (plot p) c.in-Ok-run_from.ensures.value) says.0,
       stops_kept g.D.Disk.seen g.D.Disk.moment g.D.Disk.leaves g.D.Disk.faults g.E.Sink.holds g.E.Sink.faults run c.in-Ok.resumed c.args.disk.now c.resume.new.disk c.run_from.new.disk c.args.err.now c.run_from.new.err None Done
-          tt c.in-Ok.ensures.reads (c.in-Ok.ensures.settled (λ failed. absurd (cc))) (λ image told. c.in-Ok.ensures.holds image p told c.requires.accepted) can kept,
+          tt c.in-Ok.ensures.reads (c.in-Ok.ensures.settled (λ failed. absurd (cc))) (λ image told. c.in-Ok.ensures.holds image p told c.requires.accepted.accepted) can kept,
     )
 
 pub returns-in-Err-run_from-clause-outcome : goal.returns-in-Err-run_from-clause-outcome
@@ -69,8 +69,8 @@ returns-in-Err-run_from-clause-outcome g c =
     let p = run.problem in
     let found = content_resumed run.bytes p c.in-Ok.resumed in
     let seen = g.D.Disk.seen c.args.disk.now in
-    let can = c.in-Ok.ensures.can_go_on p c.requires.accepted in
-    let held = if_told (λ image. Holds image found) seen (λ image told. c.in-Ok.ensures.holds image p told c.requires.accepted) in
+    let can = c.in-Ok.ensures.can_go_on p c.requires.accepted.accepted in
+    let held = if_told (λ image. Holds image found) seen (λ image told. c.in-Ok.ensures.holds image p told c.requires.accepted.accepted) in
     let kept = c.in-Err-run_from.ensures.kept in
     let reason = c.in-Err-run_from.fault in
     let lines = flat_map checkpoint_line (marks run.every found run.target) in
@@ -84,7 +84,7 @@ returns-in-Err-run_from-clause-outcome g c =
           (unkept run.bytes p run.every run.target seen (answer_of_run p found run.target) lines kept.said (g.E.Sink.faults c.args.err.now) (g.E.Sink.faults c.run_from.new.err) reason answer says),
       subst (λ (s : Status). StopsKept g.D.Disk.seen g.D.Disk.moment g.D.Disk.leaves c.args.disk.now c.run_from.new.disk s run kept.said) (sym is)
           (stops_kept g.D.Disk.seen g.D.Disk.moment g.D.Disk.leaves g.D.Disk.faults g.E.Sink.holds g.E.Sink.faults run c.in-Ok.resumed c.args.disk.now c.resume.new.disk c.run_from.new.disk c.args.err.now c.run_from.new.err
-          (Some reason) (keep_refused reason) refl c.in-Ok.ensures.reads (c.in-Ok.ensures.settled (λ failed. absurd (cc))) (λ image told. c.in-Ok.ensures.holds image p told c.requires.accepted) can kept),
+          (Some reason) (keep_refused reason) refl c.in-Ok.ensures.reads (c.in-Ok.ensures.settled (λ failed. absurd (cc))) (λ image told. c.in-Ok.ensures.holds image p told c.requires.accepted.accepted) can kept),
     )
 
 pub returns-in-Err-run_from-clause-disk_fault : goal.returns-in-Err-run_from-clause-disk_fault
@@ -121,3 +121,14 @@ returns-in-Ok-run_from-clause-settled g c other = c.in-Ok-run_from.ensures.kept.
 pub returns-in-Err-run_from-clause-settled : goal.returns-in-Err-run_from-clause-settled
 returns-in-Err-run_from-clause-settled g c other =
     c.in-Err-run_from.ensures.kept.settled (λ is. other (ap Err (c.from-in-Err-run_from.ensures ∙ ap keep_refused (same_Some c.in-Err-run_from.fault fault.DiskFault is)))) (c.in-Ok.ensures.settled (λ failed. absurd (cc)))
+
+-- ---- nothing of a source refuses it
+
+pub returns-in-Err-clause-no_source : goal.returns-in-Err-clause-no_source
+returns-in-Err-clause-no_source g c ends = resumed_at_source c.in-Err.fault (subst EndsAtSource c.from.ensures ends)
+
+pub returns-in-Ok-run_from-clause-no_source : goal.returns-in-Ok-run_from-clause-no_source
+returns-in-Ok-run_from-clause-no_source g c ends = ends
+
+pub returns-in-Err-run_from-clause-no_source : goal.returns-in-Err-run_from-clause-no_source
+returns-in-Err-run_from-clause-no_source g c ends = kept_at_source c.in-Err-run_from.fault (subst EndsAtSource c.from-in-Err-run_from.ensures ends)

@@ -2,11 +2,12 @@ use Rattle.std.proofs.Common.{[], sym, ◌∙◌, refl, ap, subst, inl, List, �
 use Rattle.amr_causes.proofs.ByteLaws.{grows_none}
 use Rattle.amr_def.specs.Plot.{plot}
 use Rattle.amr_patch.specs.Meshes.{state_of}
-use Rattle.amr_problem.specs.Judgement.{IsProblemOf}
-use Rattle.amr_run.specs.Table.{kept_row}
+use Rattle.amr_checkpoint.specs.Contents.{IsStorable}
+use Rattle.amr_run.specs.Outcome.{EndsAtSource}
+use Rattle.amr_run.specs.Table.{JudgesStorable, kept_row}
 use Rattle.amr_run.proofs.Causes.{caused_by, kept_causes, plot_causes, unread_causes}
 use Rattle.amr_run.proofs.KeptOutcomes.{kept_replies, only_reads_none, plot_of_kept, plot_unwritten, settles, settles_by, settles_unread, stops_by, stops_run, unread_before}
-use Rattle.amr_run.proofs.Outcomes.{refused_by, stops_within, unread}
+use Rattle.amr_run.proofs.Outcomes.{at_source, refused_by, stops_within, unread}
 use Rattle.amr_run.specs.declared.status.Status.TheVariants.{Done, WriteFault}
 use Rattle.amr_run.proofs.commands.keep.Goals as goal
 
@@ -23,7 +24,7 @@ returns-in_err-given-clause-outcome g c =
           grows_none g.E.Sink.holds c.args.err.now,
           refused_by (kept_row c.args.marks) c.from_residual.result _ read.0 (g.D.Disk.seen c.args.disk.now) [] [] c.from_residual.ensures.1 (unread (kept_row c.args.marks) _ read.0 (g.D.Disk.seen c.args.disk.now) tt read.2),
           stops_by g.D.Disk.seen g.D.Disk.moment g.D.Disk.leaves c.args.disk.now c.args.disk.now c.from_residual.result _ read.0 c.args.marks [] c.from_residual.ensures.1
-              (λ image told. inl (unread_before _ read.0 read.2, only_reads_none g.D.Disk.seen g.D.Disk.moment g.D.Disk.leaves c.args.disk.now, refl)),
+              (λ image told. inl (unread_before JudgesStorable _ read.0 read.2, only_reads_none g.D.Disk.seen g.D.Disk.moment g.D.Disk.leaves c.args.disk.now, refl)),
         ),
       ),
     )
@@ -31,7 +32,7 @@ returns-in_err-given-clause-outcome g c =
 pub keep_run-requires-clause-accepted : goal.keep_run-requires-clause-accepted
 keep_run-requires-clause-accepted g c κs within =
     let read = c.in_ok-given.ensures.problem in
-    subst (λ (b : List ℕ). IsProblemOf b c.in_ok-given.given.problem) (sym (c.deref.ensures.value ∙ read.2.0)) read.2.1
+    subst (λ (b : List ℕ). IsStorable b c.in_ok-given.given.problem) (sym (c.deref.ensures.value ∙ read.2.0)) read.2.1
 
 pub keep_run-requires-clause-within : goal.keep_run-requires-clause-within
 keep_run-requires-clause-within g c κs within = stops_within c.args.marks.to c.in_ok-given.given.problem c.stop_of.result c.stop_of.ensures
@@ -105,7 +106,7 @@ returns-clause-outcome g c =
 pub returns-in_err-given-clause-settled : goal.returns-in_err-given-clause-settled
 returns-in_err-given-clause-settled g c =
     let read = c.in_err-given.ensures.problem in
-    settles_by g.D.Disk.seen g.D.Disk.moment g.D.Disk.leaves c.args.disk.now c.args.disk.now c.from_residual.result _ c.from_residual.ensures.1 (settles_unread g.D.Disk.seen g.D.Disk.moment g.D.Disk.leaves c.args.disk.now _ read.0 read.2)
+    settles_by g.D.Disk.seen g.D.Disk.moment g.D.Disk.leaves c.args.disk.now c.args.disk.now c.from_residual.result _ c.from_residual.ensures.1 (settles_unread g.D.Disk.seen g.D.Disk.moment g.D.Disk.leaves JudgesStorable c.args.disk.now _ read.0 read.2)
 
 pub returns-in_err-mesh-clause-settled : goal.returns-in_err-mesh-clause-settled
 returns-in_err-mesh-clause-settled g c =
@@ -119,18 +120,29 @@ returns-in_err-plot_in_threads-clause-settled g c =
 pub returns-clause-settled : goal.returns-clause-settled
 returns-clause-settled g c = c.in_ok-mesh.ensures.settled (λ is. absurd (cc))
 
+-- ---- the disk comes after the source
+
+pub returns-in_err-mesh-clause-source_first : goal.returns-in_err-mesh-clause-source_first
+returns-in_err-mesh-clause-source_first g c ends = absurd (c.in_err-mesh.ensures.no_source (at_source c.from_residual-in_err-mesh.result _ c.from_residual-in_err-mesh.ensures.1 ends))
+
+pub returns-in_err-plot_in_threads-clause-source_first : goal.returns-in_err-plot_in_threads-clause-source_first
+returns-in_err-plot_in_threads-clause-source_first g c ends = absurd (at_source c.from_residual-in_err-plot_in_threads.result WriteFault c.from_residual-in_err-plot_in_threads.ensures.1 ends)
+
+pub returns-clause-source_first : goal.returns-clause-source_first
+returns-clause-source_first g c ends = absurd ends
+
 -- ---- causes
 
 pub returns-in_err-given-clause-causes : goal.returns-in_err-given-clause-causes
 returns-in_err-given-clause-causes g c =
     let given = c.in_err-given.ensures in
-    caused_by c.from_residual.result _ _ _ c.from_residual.ensures.1 (unread_causes _ given.problem.0 _ _ given.problem.2 (λ is. given.read_fault (ap Err is)) (λ other. given.no_read_fault (λ is. other (cc))))
+    caused_by c.from_residual.result _ _ _ c.from_residual.ensures.1 (unread_causes JudgesStorable _ given.problem.0 _ _ given.problem.2 (λ is. given.read_fault (ap Err is)) (λ other. given.no_read_fault (λ is. other (cc))))
 
 pub returns-in_err-mesh-clause-causes : goal.returns-in_err-mesh-clause-causes
 returns-in_err-mesh-clause-causes g c =
     let kept = c.in_err-mesh.ensures in
     caused_by c.from_residual-in_err-mesh.result _ _ _ c.from_residual-in_err-mesh.ensures.1
-    (kept_causes _ _ _ kept.refused.1 (c.in_ok-given.ensures.no_read_fault (λ is. cc)) refl (λ is. kept.disk_fault (ap Err is)) (λ other. kept.no_disk_fault (λ is. other (cc)))
+    (kept_causes _ _ _ (λ is. kept.no_source (subst EndsAtSource (sym is) tt)) (c.in_ok-given.ensures.no_read_fault (λ is. cc)) refl (λ is. kept.disk_fault (ap Err is)) (λ other. kept.no_disk_fault (λ is. other (cc)))
     (λ is. kept.write_fault (ap Err is)) (λ other. kept.no_write_fault (λ is. other (cc))))
 
 pub returns-in_err-plot_in_threads-clause-causes : goal.returns-in_err-plot_in_threads-clause-causes

@@ -3,8 +3,8 @@ use Rattle.amr_causes.proofs.ByteLaws.{grows_none}
 use Rattle.amr_checkpoint.specs.declared.faults.ResumeFault.TheVariants as resuming
 use Rattle.amr_def.specs.Plot.{plot}
 use Rattle.amr_patch.specs.Meshes.{state_of}
-use Rattle.amr_run.proofs.KeptOutcomes.{settles, settles_by}
-use Rattle.amr_run.proofs.Outcomes.{cut_short, refused_by}
+use Rattle.amr_run.proofs.KeptOutcomes.{resumed_at_source, settles, settles_by}
+use Rattle.amr_run.proofs.Outcomes.{at_source, cut_short, refused_by}
 use Rattle.amr_run.proofs.StoreOutcomes.{plot_of_store, unshown}
 use Rattle.amr_run.specs.Refusals.{resume_refused}
 use Rattle.amr_run.specs.Table.{show_row}
@@ -38,3 +38,14 @@ returns-in_err-plot-clause-settled g c =
 
 pub returns-clause-settled : goal.returns-clause-settled
 returns-clause-settled g c = c.in_ok-shown.ensures.settled (λ failed. absurd (cc))
+
+-- ---- nothing of a source refuses it
+
+pub returns-in_err-shown-clause-no_source : goal.returns-in_err-shown-clause-no_source
+returns-in_err-shown-clause-no_source g c ends = resumed_at_source c.in_err-shown.field-0.0 (at_source c.from_residual.result _ c.from_residual.ensures.1 ends)
+
+pub returns-in_err-plot-clause-no_source : goal.returns-in_err-plot-clause-no_source
+returns-in_err-plot-clause-no_source g c ends = at_source c.from_residual-in_err-plot.result WriteFault c.from_residual-in_err-plot.ensures.1 ends
+
+pub returns-clause-no_source : goal.returns-clause-no_source
+returns-clause-no_source g c ends = ends

@@ -60,3 +60,9 @@ pub returns-in-WrongKind-clause-short : goal.returns-in-WrongKind-clause-short
 returns-in-WrongKind-clause-short g c =
     short_as g.E.Sink.holds c.args.err.now c.put_line-in-WrongKind.new.sink c.put_line-in-WrongKind.result _ _
     (ap (λ (t : List ℕ). line (codes "amr: problem: wrong kind " ++ (t ++ []))) c.text-in-WrongKind.ensures ∙ refusal_of _ _ c.in-WrongKind.is) c.put_line-in-WrongKind.ensures.short
+
+pub returns-in-SpeciesOutside-clause-whole : goal.returns-in-SpeciesOutside-clause-whole
+returns-in-SpeciesOutside-clause-whole g c = whole_as g.E.Sink.holds c.args.err.now c.put_species.new.err c.put_species.result _ _ (refusal_of _ _ c.in-SpeciesOutside.is) c.put_species.ensures.whole
+
+pub returns-in-SpeciesOutside-clause-short : goal.returns-in-SpeciesOutside-clause-short
+returns-in-SpeciesOutside-clause-short g c = short_as g.E.Sink.holds c.args.err.now c.put_species.new.err c.put_species.result _ _ (refusal_of _ _ c.in-SpeciesOutside.is) c.put_species.ensures.short

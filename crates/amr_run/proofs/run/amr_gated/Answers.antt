@@ -1,7 +1,8 @@
-use Rattle.std.proofs.Common.{◌++◌, ◌∙◌, ap, ⊎_elim, inl, inr}
+use Rattle.std.proofs.Common.{◌++◌, ◌∙◌, ap, subst, sym, ⊎_elim, inl, inr}
 use Rattle.amr_causes.proofs.ByteLaws.{grows_more}
 use Rattle.amr_causes.proofs.CauseLaws.{rose_before}
 use Rattle.amr_cli.specs.Words.{command_of}
+use Rattle.amr_run.specs.Outcome.{EndsAtSource}
 use Rattle.amr_run.specs.Texts.{message}
 use Rattle.amr_run.proofs.Outcomes.{ends_by_line, err_before, is_complete, told}
 use Rattle.amr_run.proofs.run.amr_gated.Goals as goal
@@ -37,8 +38,9 @@ returns g c =
         taken = serve.taken;
         unopened = serve.unopened;
         unwritten = serve.unwritten;
-        source_first = serve.source_first;
-        judged_first = serve.judged_first;
+        source_first = λ is. serve.source_first (subst EndsAtSource (sym is) tt);
+        judged_first = λ fault is. serve.source_first (subst EndsAtSource (sym is) tt);
+        species_first = λ k is. serve.source_first (subst EndsAtSource (sym is) tt);
         untouched = λ none. let same = serve.untouched none in (same.0, same.1, same.3);
         quiet = λ command asked keeps is. c.tell.ensures.quiet is ∙ serve.silent command asked keeps;
         read_fault = serve.causes.read_fault;

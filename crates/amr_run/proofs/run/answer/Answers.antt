@@ -1,9 +1,10 @@
-use Rattle.std.proofs.Common.{refl, sym, subst, ℕ, IfSome, Option, Some, None, []}
+use Rattle.std.proofs.Common.{refl, sym, subst, ℕ, IfSome, Option, Some, None, Result, []}
 use Rattle.amr_causes.proofs.ByteLaws.{grows_none, were_left}
 use Rattle.amr_cli.specs.declared.command.Command.{Command}
-use Rattle.amr_run.specs.Outcome.{RepliesBy, RepliesTo, StopsBy, StopsTo, status_of}
+use Rattle.amr_run.specs.Outcome.{EndsAtSource, RepliesBy, RepliesTo, StopsBy, StopsTo, status_of}
 use Rattle.amr_run.specs.Reading.{TakesAtMost}
-use Rattle.amr_run.specs.Table.{OpensStore, batch_row, check_row, meaning, run_meaning, run_row, show_row, trial_row}
+use Rattle.amr_run.specs.Table.{OpensStore, batch_row, check_row, meaning, run_meaning, run_row, show_row, trial_row, view_row}
+use Rattle.amr_run.specs.declared.status.Status.{Status}
 use Rattle.amr_run.proofs.Causes.{causes_of}
 use Rattle.amr_run.proofs.KeptOutcomes.{only_reads_none}
 use Rattle.amr_run.proofs.Outcomes.{never_disk_fault, never_usage, takes_none}
@@ -126,6 +127,24 @@ returns-in-Batch-clause-outcome g c =
       ),
     )
 
+pub returns-in-View-clause-outcome : goal.returns-in-View-clause-outcome
+returns-in-View-clause-outcome g c =
+    let done = c.view.ensures.outcome in
+    let seen = g.D.Disk.seen c.args.disk.now in (
+      done.0,
+      (
+        done.1.0,
+        (
+          [],
+          done.1.1,
+          done.1.2,
+          grows_none g.E.Sink.holds c.args.err.now,
+          subst (λ (command : Command). RepliesTo (status_of c.view.result) command done.0 seen done.1.0 []) (sym c.in-View.is) (done.1.3 seen),
+          subst (λ (command : Command). StopsTo g.D.Disk.seen g.D.Disk.moment g.D.Disk.leaves c.args.disk.now c.args.disk.now (status_of c.view.result) (Some command) done.0 []) (sym c.in-View.is) (only_reads_none g.D.Disk.seen g.D.Disk.moment g.D.Disk.leaves c.args.disk.now),
+        ),
+      ),
+    )
+
 -- ---- what was taken
 
 pub returns-in-None-clause-taken : goal.returns-in-None-clause-taken
@@ -150,6 +169,9 @@ returns-in-Trial-clause-taken g c = takes_none (g.S.Source.left c.args.src.now) 
 pub returns-in-Batch-clause-taken : goal.returns-in-Batch-clause-taken
 returns-in-Batch-clause-taken g c = subst (λ (command : Command). IfSome (meaning command).reads (λ most. TakesAtMost most (g.S.Source.left c.args.src.now) (g.S.Source.left c.batch.new.src))) (sym c.in-Batch.is) c.batch.ensures.taken
 
+pub returns-in-View-clause-taken : goal.returns-in-View-clause-taken
+returns-in-View-clause-taken g c = subst (λ (command : Command). IfSome (meaning command).reads (λ most. TakesAtMost most (g.S.Source.left c.args.src.now) (g.S.Source.left c.view.new.src))) (sym c.in-View.is) c.view.ensures.taken
+
 -- ---- what is pending
 
 pub returns-in-None-clause-settled : goal.returns-in-None-clause-settled
@@ -170,6 +192,17 @@ returns-in-Trial-clause-settled g c opens = absurd (subst OpensStore c.in-Trial.
 pub returns-in-Batch-clause-settled : goal.returns-in-Batch-clause-settled
 returns-in-Batch-clause-settled g c opens = absurd (subst OpensStore c.in-Batch.is opens)
 
+pub returns-in-View-clause-settled : goal.returns-in-View-clause-settled
+returns-in-View-clause-settled g c opens = absurd (subst OpensStore c.in-View.is opens)
+
+-- ---- the disk comes after the source
+
+pub returns-in-Some-clause-source_first : goal.returns-in-Some-clause-source_first
+returns-in-Some-clause-source_first g c = c.keep.ensures.source_first
+
+pub returns-in-Show-clause-source_first : goal.returns-in-Show-clause-source_first
+returns-in-Show-clause-source_first g c ends = absurd (c.show.ensures.no_source ends)
+
 -- ---- what never refuses
 
 pub returns-in-None-clause-refused : goal.returns-in-None-clause-refused
@@ -187,6 +220,9 @@ returns-in-Trial-clause-refused g c = let said = c.trial.ensures.outcome in neve
 pub returns-in-Batch-clause-refused : goal.returns-in-Batch-clause-refused
 returns-in-Batch-clause-refused g c = let done = c.batch.ensures.outcome in never_usage batch_row c.batch.result done.0 None done.1.0 [] (done.1.3 None) c.batch.ensures.refused
 
+pub returns-in-View-clause-refused : goal.returns-in-View-clause-refused
+returns-in-View-clause-refused g c = let done = c.view.ensures.outcome in never_usage (view_row c.in-View.asked) c.view.result done.0 None done.1.0 [] (done.1.3 None) c.view.ensures.refused
+
 -- ---- causes
 
 pub returns-in-None-clause-causes : goal.returns-in-None-clause-causes
@@ -203,7 +239,7 @@ returns-in-Check-clause-causes g c =
 
 pub returns-in-Show-clause-causes : goal.returns-in-Show-clause-causes
 returns-in-Show-clause-causes g c =
-    causes_of c.show.result _ _ (λ is. absurd (c.show.ensures.no_read_fault is)) (λ other. refl) c.show.ensures.disk_fault c.show.ensures.no_disk_fault c.show.ensures.write_fault c.show.ensures.no_write_fault refl
+    causes_of c.show.result _ _ (λ is. absurd (c.show.ensures.no_source (subst (λ (r : Result Unit Status). EndsAtSource (status_of r)) (sym is) tt))) (λ other. refl) c.show.ensures.disk_fault c.show.ensures.no_disk_fault c.show.ensures.write_fault c.show.ensures.no_write_fault refl
 
 pub returns-in-Trial-clause-causes : goal.returns-in-Trial-clause-causes
 returns-in-Trial-clause-causes g c =
@@ -217,3 +253,9 @@ returns-in-Batch-clause-causes g c =
     let done = c.batch.ensures.outcome in
     causes_of c.batch.result _ _ c.batch.ensures.read_fault c.batch.ensures.no_read_fault (λ is. absurd (never_disk_fault batch_row c.batch.result done.0 None done.1.0 [] (λ opens. opens) (done.1.3 None) is)) (λ other. refl)
     c.batch.ensures.write_fault c.batch.ensures.no_write_fault refl
+
+pub returns-in-View-clause-causes : goal.returns-in-View-clause-causes
+returns-in-View-clause-causes g c =
+    let done = c.view.ensures.outcome in
+    causes_of c.view.result _ _ c.view.ensures.read_fault c.view.ensures.no_read_fault (λ is. absurd (never_disk_fault (view_row c.in-View.asked) c.view.result done.0 None done.1.0 [] (λ opens. opens) (done.1.3 None) is)) (λ other. refl)
+    c.view.ensures.write_fault c.view.ensures.no_write_fault refl

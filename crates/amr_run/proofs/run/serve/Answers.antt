@@ -141,3 +141,11 @@ returns-in-Ok-answer-clause-causes g c = c.in-Ok-answer.ensures.causes
 
 pub returns-in-Err-clause-causes : goal.returns-in-Err-clause-causes
 returns-in-Err-clause-causes g c = c.in-Err.ensures.causes
+
+-- ---- the disk comes after the source
+
+pub returns-in-Ok-answer-clause-source_first : goal.returns-in-Ok-answer-clause-source_first
+returns-in-Ok-answer-clause-source_first g c = c.in-Ok-answer.ensures.source_first
+
+pub returns-in-Err-clause-source_first : goal.returns-in-Err-clause-source_first
+returns-in-Err-clause-source_first g c = c.in-Err.ensures.source_first

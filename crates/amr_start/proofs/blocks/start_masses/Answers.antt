@@ -7,7 +7,7 @@ use Rattle.amr_start.proofs.Filling.{HasMore, none_yet, block_at, more_blocks}
 use Rattle.amr_start.proofs.blocks.start_masses.Goals as goal
 
 no_block : Block
-no_block = record { x0 = 0; y0 = 0; x1 = 0; y1 = 0; mass = 0 }
+no_block = record { x0 = 0; y0 = 0; x1 = 0; y1 = 0; mass = 0; species = 0 }
 
 pub loop-b-init : goal.loop-b-init
 loop-b-init c =

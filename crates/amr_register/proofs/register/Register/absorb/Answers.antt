@@ -3,7 +3,7 @@ use Rattle.std.proofs.lemmas.Int.{ints}
 use Rattle.amr_box.specs.declared.Cell.{Cell}
 use Rattle.amr_box.specs.Cells.{cell}
 use Rattle.amr_register.specs.Entries.{entry_at}
-use Rattle.amr_register.specs.Registers.{cells_in, edges_in, entry_in, sides_in}
+use Rattle.amr_register.specs.Fields.{cells_in, edges_in, entry_in, sides_in}
 use Rattle.amr_register.proofs.EdgeLists.{same_edges_itself}
 use Rattle.amr_register.proofs.EntryLaws.{entry_of_other, entry_of_place, entry_of_set}
 use Rattle.amr_register.proofs.OwnedFlows.{kept_as}

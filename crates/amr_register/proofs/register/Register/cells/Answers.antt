@@ -1,4 +1,4 @@
-use Rattle.amr_register.specs.Registers.{cells_in}
+use Rattle.amr_register.specs.Fields.{cells_in}
 use Rattle.amr_register.proofs.register.Register.cells.Goals as goal
 
 pub returns : goal.returns

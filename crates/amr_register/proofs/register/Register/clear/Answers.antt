@@ -1,7 +1,7 @@
 use Rattle.std.proofs.Common.{◌∙◌, ℤ, List, ap, arith, length, pos, refl}
 use Rattle.std.specs.Prelude.{slice_index_or, vec_len}
 use Rattle.std.proofs.lemmas.List.{get_or-replicate, length-replicate}
-use Rattle.amr_register.specs.Registers.{cells_in, edges_in, entry_in, sides_in}
+use Rattle.amr_register.specs.Fields.{cells_in, edges_in, entry_in, sides_in}
 use Rattle.amr_register.proofs.EdgeLists.{same_edges_itself}
 use Rattle.amr_register.proofs.EntryLaws.{no_entries}
 use Rattle.amr_register.proofs.register.Register.clear.Goals as goal

@@ -4,7 +4,7 @@ use Rattle.amr_box.specs.declared.Cell.{Cell}
 use Rattle.std.proofs.lemmas.List.{with_items_is}
 use Rattle.amr_register.specs.CoarseFlows.{net_owned}
 use Rattle.amr_register.specs.Entries.{entry_at}
-use Rattle.amr_register.specs.Registers.{cells_in, edges_in, entry_in, sides_in}
+use Rattle.amr_register.specs.Fields.{cells_in, edges_in, entry_in, sides_in}
 use Rattle.amr_register.proofs.EdgeLists.{same_edges_itself}
 use Rattle.amr_register.proofs.EntryLaws.{entry_of_place}
 use Rattle.amr_register.proofs.NetOver.{along, parts_taken}

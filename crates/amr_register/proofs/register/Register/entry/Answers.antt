@@ -1,6 +1,6 @@
 use Rattle.std.proofs.Common.{◌∙◌, sym, pos, arith}
 use Rattle.std.proofs.lemmas.Int.{ints}
-use Rattle.amr_register.specs.Registers.{cells_in, entry_in}
+use Rattle.amr_register.specs.Fields.{cells_in, entry_in}
 use Rattle.amr_register.proofs.EntryLaws.{entry_of_place}
 use Rattle.amr_register.proofs.OwnedFlows.{kept_as}
 use Rattle.amr_register.proofs.Taken.{same_at}

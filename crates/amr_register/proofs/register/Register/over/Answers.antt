@@ -8,7 +8,7 @@ use Rattle.amr_patch.specs.Patches.{box, in_patches}
 use Rattle.amr_register.specs.declared.sides.CoveredSides.{CoveredSides}
 use Rattle.amr_register.specs.RegisterCells.{is_register_cell}
 use Rattle.amr_register.specs.EdgeCells.{AreEdgesIn, HaveEachOnce, IsAmong, lists_of}
-use Rattle.amr_register.specs.Registers.{cells_in, edges_in, entry_in, sides_in}
+use Rattle.amr_register.specs.Fields.{cells_in, edges_in, entry_in, sides_in}
 use Rattle.amr_register.proofs.CellLists.{where_passes}
 use Rattle.amr_register.proofs.EdgesTaken.{edges_are}
 use Rattle.amr_register.proofs.EntryLaws.{no_entries}

@@ -9,7 +9,7 @@ use Rattle.amr_patch.specs.Orders.{IsOrderOf}
 use Rattle.amr_patch.specs.Pairwise.{Pairwise}
 use Rattle.amr_patch.specs.Patches.{ArePatchesApart, KeepsFrameAndFluxes, box, masses_in}
 use Rattle.amr_patch.proofs.Keeping.{kept_apart, kept_order}
-use Rattle.amr_register.specs.Registers.{HasEdgesOf, cells_in, entry_in}
+use Rattle.amr_register.specs.Fields.{HasEdgesOf, cells_in, entry_in}
 use Rattle.amr_register.specs.Entries.{with_entries}
 use Rattle.amr_register.proofs.register.Register.reflux.Goals as goal
 

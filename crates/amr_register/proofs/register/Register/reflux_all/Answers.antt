@@ -1,6 +1,6 @@
 use Rattle.std.proofs.Common.{◌^◌, ℕ, pos, ◌+ℤ◌, ◌≤ℤ◌, ◌<ℤ◌, arith, subst}
 use Rattle.std.specs.Prelude.{slice_index_or}
-use Rattle.amr_register.specs.Registers.{entry_in}
+use Rattle.amr_register.specs.Fields.{entry_in}
 use Rattle.amr_register.proofs.Changed.{one_changed}
 use Rattle.amr_register.proofs.Refluxes.{IsRefluxed, all_frames_kept, all_have_entries, turn_mass, turn_place}
 use Rattle.amr_register.proofs.register.Register.reflux_all.Goals as goal

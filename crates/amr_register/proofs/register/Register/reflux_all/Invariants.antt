@@ -1,4 +1,4 @@
-use Rattle.amr_register.specs.Registers.{entry_in}
+use Rattle.amr_register.specs.Fields.{entry_in}
 use Rattle.amr_register.proofs.Changed.{AreChanged}
 use Rattle.amr_register.proofs.Refluxes.{IsRefluxed}
 use Rattle.amr_register.proofs.register.Register.reflux_all.Given as goal

@@ -5,7 +5,7 @@ use Rattle.std.proofs.lemmas.List.{length-map}
 use Rattle.amr_patch.specs.Patches.{box}
 use Rattle.amr_register.specs.declared.edges.EdgeCell.{EdgeCell}
 use Rattle.amr_register.specs.EdgeCells.{AreEdgesIn, cell_of, lists_of}
-use Rattle.amr_register.specs.Registers.{cells_in, edges_in, entry_in}
+use Rattle.amr_register.specs.Fields.{cells_in, edges_in, entry_in}
 use Rattle.amr_register.specs.Written.{AreKeysApart, AreWritten, own_mass, with_entry}
 use Rattle.amr_register.proofs.CellLists.{is_or_not}
 use Rattle.amr_register.proofs.EdgesTaken.{all_numbers}

@@ -7,7 +7,7 @@ use Rattle.std.proofs.lemmas.List.{with_items_is}
 use Rattle.amr_register.specs.declared.edges.EdgeCell.{EdgeCell}
 use Rattle.amr_register.specs.EdgeCells.{AreOnceBy, lists_of, number_of}
 use Rattle.amr_register.specs.Entries.{entry_at}
-use Rattle.amr_register.specs.Registers.{cells_in, edges_in, entry_in, sides_in}
+use Rattle.amr_register.specs.Fields.{cells_in, edges_in, entry_in, sides_in}
 use Rattle.amr_register.specs.Written.{AreAllWritten, by_number, without_net}
 use Rattle.amr_register.proofs.EdgeLists.{same_edges_itself}
 use Rattle.amr_register.proofs.EdgesTaken.{all_numbers, entry_taken}

@@ -1,0 +1,119 @@
+//! The steps of species from one regrid that is due to the next.
+
+ghost use Rattle.std.specs.Prelude.{◌≡◌, ◌<◌, ◌≤◌, ℕ, false, length, slice_index_or, true, OnOk};
+ghost use Rattle.std.specs.List.{All};
+ghost use Rattle.amr_def.specs.Facts.{IsSound};
+ghost use Rattle.amr_patch.specs.Meshes.{is_spent, levels_of, state_of};
+ghost use Rattle.amr_start.specs.PatchBoxes.{IsChopped};
+ghost use Rattle.amr_advance.specs.Crews.{MayRun};
+ghost use Rattle.amr_cycle.specs.Cycles.{AreCoarsenableAbove};
+ghost use Rattle.amr_cycle.specs.Kept.{IsKeptFor};
+ghost use Rattle.amr_drive.specs.declared.lanes.Lane.{Lane};
+ghost use Rattle.amr_drive.specs.Lanes.{AtEach, HasGone, HaveGone, MayGo, stepped_to};
+
+use crate::lanes::{Lane, all_done, change_all};
+use crate::nexts::make_plain_step;
+use amr_advance::Workers;
+use amr_causes::NoMemory;
+use amr_cycle::Kept;
+use amr_def::Problem;
+use amr_patch::Mesh;
+use amr_workers::Gate;
+use std::sync::Wait;
+use std::thread::{Threads, for_each_mut};
+
+/// Makes the steps of a mesh up to step `end`, with no regrid between them.
+fn make_plain_steps<R: Threads + Wait + Sync, G: Gate + Sync>(
+    workers: &mut Workers<'_, R, G>,
+    p: &Problem,
+    mesh: &mut Mesh,
+    kept: &mut Kept,
+    end: u32,
+) -> Result<(), NoMemory>
+    requires whole { is_spent mesh.old ≡ false }
+    requires sound { IsSound p.now (state_of mesh.old) }
+    requires ahead { (state_of mesh.old).step ≤ end }
+    requires within { end ≤ p.now.steps }
+    requires coarsenable { AreCoarsenableAbove (levels_of mesh.old) }
+    requires kept { IsKeptFor p.now (state_of mesh.old).levels kept.old }
+    requires crew { (tasks : ℕ) → MayRun G.admits p.now tasks workers.old }
+    ensures value { OnOk result (state_of mesh.new ≡ stepped_to p.now (state_of mesh.old) end) }
+    ensures whole { OnOk result (is_spent mesh.new ≡ false) }
+    ensures patches { OnOk result (All (IsChopped p.now.max_grid_size) (levels_of mesh.old) → All (IsChopped p.now.max_grid_size) (levels_of mesh.new)) }
+    ensures kept { OnOk result (IsKeptFor p.now (state_of mesh.new).levels kept.new) }
+{
+    for _step in mesh.step()..end {
+        make_plain_step(workers, p, mesh, kept)?;
+    }
+    Ok(())
+}
+
+/// Makes the steps of a species up to step `end`, by its own workers.
+fn go_alone<R: Threads + Wait + Sync, G: Gate + Sync>(
+    rt: &R,
+    gate: &G,
+    end: u32,
+    lane: &mut Lane<'_>,
+)
+    requires { MayGo G.admits gate.now end lane.old.mesh lane.old }
+    ensures { lane.new.done ≡ true → HasGone end lane.old.mesh lane.old lane.new.mesh lane.new }
+{
+    let mut workers = Workers {
+        runtime: rt,
+        gate,
+        count: lane.workers,
+        team: None,
+    };
+    let made = make_plain_steps(
+        &mut workers,
+        lane.problem,
+        &mut lane.mesh,
+        &mut lane.kept,
+        end,
+    );
+    match made {
+        Ok(()) => lane.done = true,
+        Err(_) => lane.done = false,
+    }
+}
+
+/// Makes the steps of all lanes up to step `end`, side by side in as many threads as there are workers, or in turn by one.
+fn go_side_by_side<R: Threads + Wait + Sync, G: Gate + Sync>(
+    rt: &R,
+    gate: &G,
+    threads: u32,
+    end: u32,
+    lanes: &mut [Lane<'_>],
+)
+    requires some { 0 < threads }
+    requires ready { All (λ lane. MayGo G.admits gate.now end lane.mesh lane) lanes.old }
+    ensures { (k : ℕ) (e : Lane) → k < length lanes.old → (slice_index_or lanes.new k e).done ≡ true
+        → HasGone end (slice_index_or lanes.old k e).mesh (slice_index_or lanes.old k e) (slice_index_or lanes.new k e).mesh (slice_index_or lanes.new k e) }
+{
+    let go = move |_: usize, lane: &mut Lane<'_>|
+        requires { MayGo G.admits gate.now end lane.now.mesh lane.now }
+        ensures { lane.exit.now.done ≡ true → HasGone end lane.entry.now.mesh lane.entry.now lane.exit.now.mesh lane.exit.now }
+    { go_alone(rt, gate, end, lane) };
+    for_each_mut(rt, lanes, threads as usize, &go);
+}
+
+/// Makes the steps of all species up to step `end`, with no regrid between them: side by side, each in its lane.
+pub(crate) fn go_to<R: Threads + Wait + Sync, G: Gate + Sync>(
+    rt: &R,
+    gate: &G,
+    threads: u32,
+    end: u32,
+    meshes: &mut [Mesh],
+    lanes: &mut [Lane<'_>],
+) -> Result<(), NoMemory>
+    requires some { 0 < threads }
+    requires one_each { length lanes.old ≡ length meshes.old }
+    requires ready { AtEach (MayGo G.admits gate.now end) meshes.old lanes.old }
+    ensures { OnOk result (HaveGone end meshes.old lanes.old meshes.new lanes.new) }
+{
+    change_all(meshes, lanes);
+    go_side_by_side(rt, gate, threads, end, lanes);
+    all_done(lanes)?;
+    change_all(meshes, lanes);
+    Ok(())
+}

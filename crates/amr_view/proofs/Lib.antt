@@ -1,0 +1,4 @@
+pub mod AddUp
+pub mod Laying
+pub mod Strips
+pub mod Lines

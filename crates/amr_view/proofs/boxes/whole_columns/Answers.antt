@@ -1,0 +1,15 @@
+use Rattle.std.proofs.Common.{ℕ, ◌+◌, ◌/◌, ◌^◌, ◌<◌, ◌≤◌, ◌∙◌, arith}
+use Rattle.std.proofs.lemmas.Nat.{shl_whole}
+use Rattle.amr_view.proofs.Strips.{quotient_small, up_to_room}
+use Rattle.amr_view.proofs.boxes.whole_columns.Goals as goal
+
+pub returns-clause-first : goal.returns-clause-first
+returns-clause-first c = shl_whole (c.args.low / 2 ^ c.args.l) 12 c.args.l 32 (quotient_small c.args.l c.args.low 4096 c.requires.low) (omega (arith, c.requires.fine))
+
+pub returns-clause-after : goal.returns-clause-after
+returns-clause-after c =
+    let few = quotient_small c.args.l c.args.high 4096 c.requires.high in
+    shl_whole (c.args.high / 2 ^ c.args.l + 1) 13 c.args.l 32 (omega (arith, few)) (omega (arith, c.requires.fine))
+
+pub returns-clause-room : goal.returns-clause-room
+returns-clause-room c = let is = returns-clause-after c in omega (arith, is, up_to_room c.args.l c.args.high c.requires.fine c.requires.high)

@@ -1,0 +1,40 @@
+use Rattle.std.proofs.Common.{◌≡◌, ◌∙◌, ℕ, suc, ◌+◌, ◌-◌, ◌*◌, ◌/◌, ◌<◌, ◌≤◌, ◌++◌, List, length, take, drop, to_z, of_z, w32, sym, ap, subst, arith}
+use Rattle.std.specs.Prelude.{slice_index}
+use Rattle.std.proofs.lemmas.Int.{ints}
+use Rattle.std.proofs.lemmas.List.{length-take, take_at}
+use Rattle.amr_box.specs.Cells.{width}
+use Rattle.amr_def.specs.Regrid.{odd, split_mass}
+use Rattle.amr_def.specs.State.{level_at}
+use Rattle.amr_def.specs.View.{finest_masses}
+use Rattle.amr_patch.proofs.Entries.{replicated}
+use Rattle.amr_patch.specs.Meshes.{state_of}
+use Rattle.amr_transfer.proofs.Halves.{near_parents}
+use Rattle.amr_view.specs.Rows.{AreFinest, AreLaid, IsStrip, cell_at}
+use Rattle.amr_view.proofs.Strips.{half_wide, laid_finest, laid_first, shares_are, strip_parents}
+use Rattle.amr_view.proofs.rows.+fill_row.Goals as goal
+
+pub returns-then-l-eq0 : goal.returns-then-l-eq0
+returns-then-l-eq0 t c =
+    let s = state_of c.args.mesh.now in
+    let row = c.args.row.now in
+    let all = c.fill.ensures.after (λ y e. e) in
+    subst (λ (n : ℕ). AreFinest s n row c.lay.new.masses) (sym c.if-l-eq0.true)
+    (laid_first s row c.fill.new.self c.lay.new.masses c.lay.ensures (λ k lt. ap (λ (xs : List ℕ). slice_index xs k) all ∙ replicated (length c.args.masses.now) k 0))
+
+pub returns : goal.returns
+returns t c =
+    let s = state_of c.args.mesh.now in
+    let row = c.args.row.now in
+    let l : ℕ = c.args.l - 1 in
+    let next : suc l ≡ c.args.l = omega (arith, c.if-l-eq0.false) in
+    let up = c.coarsen2-parents.result in
+    let half = length c.args.masses.now / 2 in
+    let filled = c.fill_row.new.masses in
+    let part : take half (filled ++ drop half c.args.spare.now) ≡ filled = take_at filled (drop half c.args.spare.now) half ? in
+    let finest = subst (λ (xs : List ℕ). AreFinest s l up xs) (sym part) c.fill_row.ensures in
+    let strip = subst (λ (n : ℕ). IsStrip n row) (sym next) c.requires.strip in
+    let y : to_z w32 (of_z w32 c.lo.result.y) ≡ row.lo.y = omega (arith, ints, c.lo.ensures.y, c.requires.near.south, c.requires.near.north, c.requires.near.high) in
+    let shares = shares_are l row up strip c.coarsen2-parents.ensures.corners s (take half (filled ++ drop half c.args.spare.now)) c.share_row.new.shares c.odd.result finest ? (c.odd.ensures.value ∙ ap odd y) c.share_row.ensures in
+    let laid = subst (λ (n : ℕ). AreLaid (level_at s n).masses row c.share_row.new.shares c.lay-2.new.masses) (sym next) c.lay-2.ensures in
+    subst (λ (n : ℕ). AreFinest s n row c.lay-2.new.masses) next
+    (laid_finest s l row c.share_row.new.shares c.lay-2.new.masses laid (λ k lt. shares k (omega (arith, lt, c.lay-2.auto.masses))))
