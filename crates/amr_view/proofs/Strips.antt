@@ -25,13 +25,19 @@ use Rattle.amr_view.specs.Rows.{AreFinest, AreLaid, IsStrip, cell_at}
 -- ---- parents
 
 module _ (l : ℕ) (row up : Extent) (strip : IsStrip (suc l) row) (corners : HasCorners up (half row.lo.x) (half row.lo.y) (half row.hi.x) (half row.hi.y)) where
+  parents_west : up.lo.x ≡ pos (strip.first * 2 ^ l)
+  parents_west = corners.west_is ∙ ap half (strip.west ∙ ap pos (twice_as_many strip.first l)) ∙ half-double (pos (strip.first * 2 ^ l))
+
+  parents_east : up.hi.x +ℤ pos 1 ≡ pos (strip.after * 2 ^ l)
+  parents_east = omega (arith, ints, corners.east_is, strip.east, twice_as_many strip.after l, half_and_odd row.hi.x, odd_small row.hi.x)
+
   -- the parents are those in the same columns of level 0
   pub strip_parents : IsStrip l up
   strip_parents = record {
     first = strip.first;
     after = strip.after;
-    west = corners.west_is ∙ ap half (strip.west ∙ ap pos (twice_as_many strip.first l)) ∙ half-double (pos (strip.first * 2 ^ l));
-    east = omega (arith, ints, corners.east_is, strip.east, twice_as_many strip.after l, half_and_odd row.hi.x, odd_small row.hi.x);
+    west = parents_west;
+    east = parents_east;
     flat = corners.north_is ∙ ap half strip.flat ∙ sym corners.south_is;
   }
 
@@ -41,8 +47,7 @@ module _ (l : ℕ) (row up : Extent) (strip : IsStrip (suc l) row) (corners : Ha
   -- there are half as many
   pub half_wide : IsNear row → IsNear up → width row ≡ 2 * width up
   half_wide near near_up =
-      let parents = strip_parents in
-      omega (arith, ints, (sides row near).wide, (sides up near_up).wide, strip.west, strip.east, parents.west, parents.east, twice_as_many strip.first l, twice_as_many strip.after l)
+      omega (arith, ints, (sides row near).wide, (sides up near_up).wide, strip.west, strip.east, parents_west, parents_east, twice_as_many strip.first l, twice_as_many strip.after l)
 
   -- the shares that a row of parents with their finest masses gives
   pub shares_are : (s : State) (parents shares : List ℕ) (y : ℕ) → AreFinest s l up parents → length shares ≡ 2 * length parents → y ≡ odd row.lo.y
