@@ -25,7 +25,7 @@ fill_row-requires t c =
     let near = near_parents row row up refl c.requires.near corners in
     let wide = half_wide l row up strip corners c.requires.near near in
     let count = length-take half c.args.spare.now in
-    (omega arith, c.requires.whole, near, strip_parents l row up strip corners, omega (arith, count, wide, c.requires.width, c.requires.spare), omega (arith, count))
+    (omega arith, (c.requires.whole, (near, (strip_parents l row up strip corners, (omega (arith, count, wide, c.requires.width, c.requires.spare), omega (arith, count))))))
 
 pub share_row-requires-clause-twice : goal.share_row-requires-clause-twice
 share_row-requires-clause-twice t c =
