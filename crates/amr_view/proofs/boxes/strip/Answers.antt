@@ -58,5 +58,5 @@ returns c =
     let south : row.lo.y ≡ c.args.y = ap (λ (e : Extent). e.lo.y) is ∙ omega (arith, ints) in
     let north : row.hi.y ≡ c.args.y = ap (λ (e : Extent). e.hi.y) is ∙ omega (arith, ints) in
     let over : IsStripOver c.args.l b row = strip_over c.args.l b row _ _ first after c.args.y columns.first columns.after columns.west columns.east columns.room
-        (omega (arith, ints, k.0, k.1, proper.wide, c.lo-low.ensures.x)) (omega (arith, ints, k.0, k.1, proper.wide, c.hi-high.ensures.x)) proper c.requires.low c.requires.high near west east south north in
+    (omega (arith, ints, k.0, k.1, proper.wide, c.lo-low.ensures.x)) (omega (arith, ints, k.0, k.1, proper.wide, c.hi-high.ensures.x)) proper c.requires.low c.requires.high near west east south north in
     record { strip = over.strip; near = over.near; narrow = over.narrow; row = south; west = over.west; east = over.east }
