@@ -2,3 +2,4 @@ pub mod Answer
 pub mod Batch
 pub mod Laws
 pub mod Replies
+pub mod Shares

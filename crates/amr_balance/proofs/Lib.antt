@@ -1,4 +1,0 @@
-mod Owners
-mod Loads
-mod Balance
-mod SoFar

@@ -1,9 +1,0 @@
-//! What lies in a mailbox.
-
-/// What the slot of a mailbox holds.
-#[derive(Drop)]
-pub enum Letter<O, A> {
-    Empty,
-    Order(O),
-    Answer(A),
-}
