@@ -21,7 +21,7 @@ use Rattle.amr_lots.specs.Runs.{run}
 use Rattle.amr_lots.proofs.Runs.{map_run}
 use Rattle.amr_advance.specs.declared.lots.Lots.{Lots}
 use Rattle.amr_advance.specs.Registers.{AreEdgesFor}
-use Rattle.amr_advance.specs.Handing.{AreLent}
+use Rattle.amr_advance.specs.Handed.{AreLent}
 use Rattle.amr_advance.proofs.InLots.{IsInStep}
 use Rattle.amr_advance.proofs.LentEdges.{AreEmpty, as_many, lists_count, still_empty}
 use Rattle.amr_advance.proofs.LotsHanded.{AreRunLots, HaveNoEdges}

@@ -28,7 +28,7 @@ use Rattle.amr_layout.specs.Adds.{flows_of, word_total, size_to}
 use Rattle.amr_layout.specs.Arounds.{all_borders, all_puts}
 use Rattle.amr_layout.specs.Surroundings.{Around, around}
 use Rattle.amr_layout.proofs.Planned.{nth}
-use Rattle.amr_lots.specs.declared.lot.Basis.{Basis}
+use Rattle.amr_lots.specs.declared.lot.StepBasis.{StepBasis}
 use Rattle.amr_lots.specs.declared.lot.Duty.TheVariants.{Step}
 use Rattle.amr_lots.specs.declared.lot.Lot.{Lot}
 use Rattle.amr_lots.specs.declared.lot.Work.{Work}
@@ -198,7 +198,7 @@ module _ {p : Problem} {l : ℕ} {old : Masses} {ps : List Patch} {cells : List 
   abbrev parts : FrameParts
   parts = level.lots.parts
 
-  module _ {lent xs : List (Box Lot)} (d : AreDelivered level lent xs) (b : Basis) (coarse : Option Held) (of_b : IsBasisOf p ps coarse b) (coarser : old_masses coarse ≡ old) (ws : List Work) (raw : ArePieces b l Step xs ws) where
+  module _ {lent xs : List (Box Lot)} (d : AreDelivered level lent xs) (b : StepBasis) (coarse : Option Held) (of_b : IsBasisOf p ps coarse b) (coarser : old_masses coarse ≡ old) (ws : List Work) (raw : ArePieces b l Step xs ws) where
     piece_count : length ws ≡ runs
     piece_count = raw.count ∙ d.all.lots.count
 

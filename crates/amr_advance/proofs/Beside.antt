@@ -36,17 +36,17 @@ use Rattle.amr_layout.specs.Places.{HasMask}
 use Rattle.amr_layout.specs.Surroundings.{Around, around, domain_around}
 use Rattle.amr_layout.specs.PartFlows.{AreNumbered, IsNumbered}
 use Rattle.amr_register.specs.EdgeCells.{AreEdgesIn, lists_of}
-use Rattle.amr_lots.specs.declared.lot.Basis.{Basis}
+use Rattle.amr_lots.specs.declared.lot.StepBasis.{StepBasis}
 use Rattle.amr_lots.specs.declared.lot.Duty.{Duty}
 use Rattle.amr_lots.specs.declared.lot.Duty.TheVariants.{Step}
 use Rattle.amr_lots.specs.declared.lot.Lot.{Lot}
 use Rattle.amr_lots.specs.declared.lot.Work.{Work}
 use Rattle.amr_lots.specs.declared.lot.Workspace.{Workspace}
-use Rattle.amr_lots.specs.Filling.{AreFilled, CanFill, HasFoundOuter, HasValuesOrLevel}
+use Rattle.amr_lots.specs.FrameValues.{AreFilled, CanFill, HasFoundOuter, HasValuesOrLevel}
 use Rattle.amr_lots.specs.Lots.{AreEdgeFlows, LevelStepFits}
 use Rattle.amr_lots.specs.Ready.{ArePutsOn, HasEdges, MayBegin, MayBeginIn, MayStepBeside, ReadsBorder, ServesLot}
 use Rattle.amr_lots.specs.Runs.{run}
-use Rattle.amr_lots.specs.Serving.{MaySend}
+use Rattle.amr_lots.specs.Duties.{MaySend}
 use Rattle.amr_lots.specs.Works.{coarser_of, flows_in, flows_to, flux, layouts_of, masses_of, patches_of, size}
 use Rattle.amr_lots.proofs.Runs.{run_at, run_place}
 use Rattle.amr_register.proofs.EdgeLists.{zip_at}
@@ -147,7 +147,7 @@ module _ {p : Problem} {l : ℕ} {old : Masses} {ps : List Patch} {cells : List 
   abbrev parts : FrameParts
   parts = level.lots.parts
 
-  module _ {lent xs : List (Box Lot)} (d : AreDelivered level lent xs) (lists : HaveLists level lent) (b : Basis) (coarse : Option Held) (of_b : IsBasisOf p ps coarse b) (coarser : old_masses coarse ≡ old) (ws : List Work) (raw : ArePieces b l Step xs ws)
+  module _ {lent xs : List (Box Lot)} (d : AreDelivered level lent xs) (lists : HaveLists level lent) (b : StepBasis) (coarse : Option Held) (of_b : IsBasisOf p ps coarse b) (coarser : old_masses coarse ≡ old) (ws : List Work) (raw : ArePieces b l Step xs ws)
       (fine : PlanOf) (is : IsFinePlan (around p l ps cells next) t.each (plain_size p l (masses_in ps) old) fine) (has : ArePlanned (around p l ps cells next) t.each (flux_at p l (masses_in ps) old) fine) where
     abbrev plan : PlanOf
     plan = planned t.shape ws

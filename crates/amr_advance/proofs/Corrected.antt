@@ -23,7 +23,7 @@ use Rattle.amr_transfer.specs.Sums.{summed}
 use Rattle.amr_transfer.proofs.Halves.{parent_child}
 use Rattle.amr_transfer.proofs.PatchLists.{mass_there}
 use Rattle.amr_lots.specs.declared.lot.Correction.{Correction}
-use Rattle.amr_lots.specs.Correcting.{AreCorrectedBy, FitsEntries, IsCorrected, finer_in, register_in}
+use Rattle.amr_lots.specs.Corrections.{AreCorrectedBy, FitsEntries, IsCorrected, finer_in, register_in}
 use Rattle.amr_advance.specs.Correction.{IsTriedLevel}
 
 -- ---- the parents of fine cells

@@ -21,9 +21,9 @@ use Rattle.amr_transfer.specs.Sums.{AreCoarsenable}
 use Rattle.amr_lots.specs.declared.lot.Correction.{Correction}
 use Rattle.amr_lots.specs.declared.lot.Lot.{Lot}
 use Rattle.amr_lots.specs.declared.lot.Duty.TheVariants.{Correct}
-use Rattle.amr_lots.specs.Correcting.{AreCorrectedBy, CanCorrect, FitsEntries, IsCorrected, IsReady, MayCorrect, finer_in, register_in, with_correction}
+use Rattle.amr_lots.specs.Corrections.{AreCorrectedBy, CanCorrect, FitsEntries, IsCorrected, IsReady, MayCorrect, finer_in, register_in, with_correction}
 use Rattle.amr_lots.specs.Runs.{KeepOthers, run}
-use Rattle.amr_lots.specs.Serving.{HasMadeCorrection, IsServed, MaySend, MayServe}
+use Rattle.amr_lots.specs.Duties.{HasMadeCorrection, IsServed, MaySend, MayServe}
 use Rattle.amr_lots.proofs.Runs.{run_at, run_place}
 use Rattle.amr_advance.specs.declared.lots.Lots.{Lots}
 use Rattle.amr_advance.specs.Correction.{IsLentPart, IsPartFrom, KeepsAllButCorrection}

@@ -24,12 +24,12 @@ use Rattle.amr_register.specs.declared.edges.EdgeCell.{EdgeCell}
 use Rattle.amr_register.specs.EdgeCells.{AreEdgesIn, lists_of}
 use Rattle.amr_lots.specs.declared.lot.Lot.{Lot}
 use Rattle.amr_lots.specs.declared.lot.Workspace.{Workspace}
-use Rattle.amr_lots.specs.Filling.{CanFill}
+use Rattle.amr_lots.specs.FrameValues.{CanFill}
 use Rattle.amr_lots.specs.Runs.{IsDelivered, KeepAllButMessages, run}
-use Rattle.amr_lots.specs.Serving.{HasSent, MaySend}
+use Rattle.amr_lots.specs.Duties.{HasSent, MaySend}
 use Rattle.amr_advance.specs.declared.lots.Lots.{Lots}
 use Rattle.amr_advance.specs.Lots.{CarryMasses, ServesRun}
-use Rattle.amr_advance.specs.Handing.{AreExchanged}
+use Rattle.amr_advance.specs.Handed.{AreExchanged}
 use Rattle.amr_advance.proofs.Boxes.{IsPackedFrom, all_packed, box_copies, box_crossed, box_packed}
 use Rattle.amr_advance.proofs.InLots.{IsInStep}
 use Rattle.amr_advance.proofs.LotsHanded.{AreDelivered, AreRunLots, AreSentFrom, HaveLists, HaveRuns, same_patches, still_lots}

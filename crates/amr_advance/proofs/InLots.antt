@@ -24,7 +24,7 @@ use Rattle.amr_flows.specs.Laws.{plain_size}
 use Rattle.amr_flows.specs.Words.{level_total}
 use Rattle.amr_flows.proofs.EdgeFlows.{flows_on_edges}
 use Rattle.amr_phase.specs.Plans.{total}
-use Rattle.amr_ghost.specs.Filling.{HasFrame, KeepsCells}
+use Rattle.amr_ghost.specs.GhostCells.{HasFrame, KeepsCells}
 use Rattle.amr_ghost.specs.Frames.{AreInDomain, is_of_level}
 use Rattle.amr_ghost.specs.Messages.{AreMessagesTo, HasFilled}
 use Rattle.amr_ghost.specs.Outer.{AreOuterFor}
@@ -38,7 +38,7 @@ use Rattle.amr_layout.specs.Surroundings.{Around, around}
 use Rattle.amr_layout.proofs.Planned.{level_few}
 use Rattle.amr_register.proofs.EdgeLists.{zip_from}
 use Rattle.amr_lots.specs.declared.lot.Workspace.{Workspace}
-use Rattle.amr_lots.specs.Filling.{AreFilled, HasFoundOuter, HasValuesBy, HasValuesOrLevel}
+use Rattle.amr_lots.specs.FrameValues.{AreFilled, HasFoundOuter, HasValuesBy, HasValuesOrLevel}
 use Rattle.amr_lots.specs.Lots.{AreEdgeFlows, HasStepped, IsStepped, LevelStepFits, MayStep, adds_to, lot_total}
 use Rattle.amr_lots.specs.Runs.{run}
 use Rattle.amr_lots.proofs.LotTotals.{lot_total_is}

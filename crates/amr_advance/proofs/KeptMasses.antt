@@ -10,7 +10,7 @@ use Rattle.amr_layout.proofs.Planned.{nth}
 use Rattle.amr_lots.specs.declared.lot.Duty.TheVariants.{Keep}
 use Rattle.amr_lots.specs.declared.lot.Lot.{Lot}
 use Rattle.amr_lots.specs.Runs.{KeepAllButBefore, KeepOthers, run, with_before}
-use Rattle.amr_lots.specs.Serving.{HasKeptMasses, IsServed, MayServe}
+use Rattle.amr_lots.specs.Duties.{HasKeptMasses, IsServed, MayServe}
 use Rattle.amr_lots.proofs.Runs.{map_run}
 use Rattle.amr_patch.specs.declared.patches.Patch.{Patch}
 use Rattle.amr_patch.specs.Patches.{box}

@@ -17,7 +17,7 @@ use Rattle.amr_ghost.specs.declared.sources.Span.{Span}
 use Rattle.amr_ghost.specs.Frames.{old_masses}
 use Rattle.amr_ghost.specs.Outer.{HasOuterPlaces, lent, value_count}
 use Rattle.amr_lots.specs.declared.lot.Lot.{Lot}
-use Rattle.amr_lots.specs.Filling.{FollowFrom, HasValuesBy}
+use Rattle.amr_lots.specs.FrameValues.{FollowFrom, HasValuesBy}
 use Rattle.amr_lots.proofs.InPlaces.{AreChangedTo}
 use Rattle.amr_register.proofs.EdgeLists.{zip_from, zip_weak}
 use Rattle.amr_advance.proofs.RunZips.{zip_places}

@@ -8,7 +8,7 @@ use Rattle.std.proofs.lemmas.Bool.{cases_eq, cases_lt}
 use Rattle.std.proofs.lemmas.List.{get_or-set_other, get_or-set_same, get_or_default}
 use Rattle.amr_lots.specs.declared.lot.Correction.{Correction}
 use Rattle.amr_lots.specs.declared.lot.Lot.{Lot}
-use Rattle.amr_lots.specs.Correcting.{with_correction}
+use Rattle.amr_lots.specs.Corrections.{with_correction}
 use Rattle.amr_advance.proofs.RunZips.{zip_places}
 use Rattle.amr_advance.specs.Correction.{IsLentPart, IsPartFrom, KeepsAllButCorrection}
 

@@ -12,7 +12,7 @@ use Rattle.amr_def.specs.State.{Masses}
 use Rattle.amr_patch.specs.declared.levels.Level.{Level as Held}
 use Rattle.amr_patch.specs.declared.patches.Patch.{Patch}
 use Rattle.amr_patch.specs.Patches.{box}
-use Rattle.amr_ghost.specs.Filling.{KeepsCells}
+use Rattle.amr_ghost.specs.GhostCells.{KeepsCells}
 use Rattle.amr_ghost.specs.Messages.{AreMessagesTo, CarriesMasses}
 use Rattle.amr_ghost.specs.declared.parts.FrameParts.{FrameParts}
 use Rattle.amr_ghost.proofs.Zips.{keeps_refl, zip_refl}
@@ -21,13 +21,13 @@ use Rattle.amr_register.specs.declared.edges.EdgeCell.{EdgeCell}
 use Rattle.amr_register.specs.EdgeCells.{AreEdgesIn, lists_of}
 use Rattle.amr_lots.specs.declared.lot.Lot.{Lot}
 use Rattle.amr_lots.specs.declared.lot.Workspace.{Workspace}
-use Rattle.amr_lots.specs.Filling.{HasValuesOrLevel}
+use Rattle.amr_lots.specs.FrameValues.{HasValuesOrLevel}
 use Rattle.amr_lots.specs.Runs.{HasBoxes, KeepAllButEdges, KeepAllButMessages, KeepOthers, run}
 use Rattle.amr_advance.specs.declared.lots.Lots.{Lots}
 use Rattle.amr_advance.specs.Cuts.{IsWorkspaceOf}
 use Rattle.amr_advance.specs.Lots.{AreSeveralLots, CarryMasses, IsBoxOf}
 use Rattle.amr_advance.specs.Registers.{AreEdgesFor}
-use Rattle.amr_advance.specs.Handing.{AreExchanged, AreHanded, AreLent}
+use Rattle.amr_advance.specs.Handed.{AreExchanged, AreHanded, AreLent}
 use Rattle.amr_advance.proofs.Boxes.{IsPackedFrom}
 use Rattle.amr_advance.proofs.InLots.{IsInStep}
 use Rattle.amr_advance.proofs.LentEdges.{AreEmpty, as_many, empty_in, run_in}

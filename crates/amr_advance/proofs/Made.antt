@@ -25,12 +25,12 @@ use Rattle.amr_layout.proofs.Planned.{nth}
 use Rattle.amr_register.specs.declared.edges.EdgeCell.{EdgeCell}
 use Rattle.amr_register.specs.CoarseFlows.{edge_flows}
 use Rattle.amr_register.specs.EdgeCells.{AreEdges, IsSmallNet, SameEdges, lists_of}
-use Rattle.amr_lots.specs.declared.lot.Basis.{Basis}
+use Rattle.amr_lots.specs.declared.lot.StepBasis.{StepBasis}
 use Rattle.amr_lots.specs.declared.lot.Duty.{Duty}
 use Rattle.amr_lots.specs.declared.lot.Duty.TheVariants.{Step}
 use Rattle.amr_lots.specs.declared.lot.Lot.{Lot}
 use Rattle.amr_lots.specs.declared.lot.Work.{Work}
-use Rattle.amr_lots.specs.Filling.{HasValuesBy}
+use Rattle.amr_lots.specs.FrameValues.{HasValuesBy}
 use Rattle.amr_lots.specs.Lots.{IsStepped}
 use Rattle.amr_lots.specs.Runs.{KeepAllButEdges, KeepOthers, run}
 use Rattle.amr_lots.specs.Works.{HasFoundNets, IsUnderWay, StandsForIn, coarser_of, flux, fluxes_of, masses_of, patches_of}
@@ -39,7 +39,7 @@ use Rattle.amr_advance.specs.declared.lots.Lots.{Lots}
 use Rattle.amr_advance.specs.Cuts.{IsWorkspaceOf}
 use Rattle.amr_advance.specs.Lots.{AreSeveralLots, CarryMasses, IsLotOf}
 use Rattle.amr_advance.specs.Phases.{ArePieces, IsBasisOf, IsDone, IsPiece}
-use Rattle.amr_advance.specs.Handing.{AreHanded, AreLent}
+use Rattle.amr_advance.specs.Handed.{AreHanded, AreLent}
 use Rattle.amr_advance.proofs.Boxes.{IsPackedFrom, all_packed, box_copies, box_packed}
 use Rattle.amr_advance.proofs.Delivered.{taken}
 use Rattle.amr_advance.proofs.InLots.{IsInStep}
@@ -79,7 +79,7 @@ module _ {p : Problem} {l : ℕ} {old : Masses} {ps : List Patch} {cells : List 
 
   -- ---- lots that made their step
 
-  module _ {lent xs : List (Box Lot)} (ys : List (Box Lot)) (d : AreDelivered level lent xs) (b : Basis) (coarse : Option Held) (of_b : IsBasisOf p ps coarse b) (coarser : old_masses coarse ≡ old) (ws : List Work) (raw : ArePieces b l Step xs ws)
+  module _ {lent xs : List (Box Lot)} (ys : List (Box Lot)) (d : AreDelivered level lent xs) (b : StepBasis) (coarse : Option Held) (of_b : IsBasisOf p ps coarse b) (coarser : old_masses coarse ≡ old) (ws : List Work) (raw : ArePieces b l Step xs ws)
       (count : length ys ≡ length xs) (done : (k : ℕ) (w : Work) (x : Box Lot) → k < length xs → IsDone (get_or ws k w) (get_or ys k x)) where
     a_piece : (k : ℕ) → k < runs → Work
     a_piece k lt = nth ws k (omega (arith, lt, raw.count, d.all.lots.count))

@@ -18,7 +18,7 @@ use Rattle.amr_patch.specs.Places.{grown, is_face_of}
 use Rattle.amr_patch.proofs.Lookups.{in_one, masses_in-at, same_default}
 use Rattle.amr_faces.specs.Faces.{IsInDomain, ShowsValues, flux_beside, in_reach}
 use Rattle.amr_faces.proofs.Shown.{flux_is, net_alike}
-use Rattle.amr_ghost.specs.Filling.{HasFrame}
+use Rattle.amr_ghost.specs.GhostCells.{HasFrame}
 use Rattle.amr_ghost.specs.Frames.{AreInDomain, SameMasses}
 use Rattle.amr_ghost.proofs.Reach.{own_value}
 use Rattle.amr_lots.specs.Lots.{IsStepped, LevelStepFits, MayStep}

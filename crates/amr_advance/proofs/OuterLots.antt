@@ -21,7 +21,7 @@ use Rattle.amr_ghost.specs.Messages.{CarriesMasses}
 use Rattle.amr_ghost.specs.Outer.{AreOuterValuesFor, HasNoMass, HasOuterPlaces, IsOuterSpan, lent, value_count}
 use Rattle.amr_layout.specs.Surroundings.{Around, around}
 use Rattle.amr_lots.specs.declared.lot.Lot.{Lot}
-use Rattle.amr_lots.specs.Filling.{CanFill, FollowFrom, HasValuesBy, HasValuesOrLevel}
+use Rattle.amr_lots.specs.FrameValues.{CanFill, FollowFrom, HasValuesBy, HasValuesOrLevel}
 use Rattle.amr_lots.specs.Runs.{run}
 use Rattle.amr_patch.specs.declared.levels.Level.{Level}
 use Rattle.amr_patch.specs.declared.patches.Patch.{Patch}

@@ -9,7 +9,7 @@ use Rattle.amr_board.specs.declared.board.Shape.{Shape}
 use Rattle.amr_board.specs.Ended.{EndedOf}
 use Rattle.amr_board.specs.Piece.{AreNumbered}
 use Rattle.amr_board.proofs.Sums.{got, in_range_at}
-use Rattle.amr_lots.specs.declared.lot.Basis.{Basis}
+use Rattle.amr_lots.specs.declared.lot.StepBasis.{StepBasis}
 use Rattle.amr_lots.specs.declared.lot.Duty.{Duty}
 use Rattle.amr_lots.specs.declared.lot.Lot.{Lot}
 use Rattle.amr_lots.specs.declared.lot.Work.{Work}
@@ -21,7 +21,7 @@ use Rattle.amr_advance.specs.Phases.{ArePieces, AreCollected, HasRun, IsDone, Is
 
 -- ---- pieces
 
-module _ (b : Basis) (l : ℕ) (duty : Duty) where
+module _ (b : StepBasis) (l : ℕ) (duty : Duty) where
   pub no_pieces : ArePieces b l duty [] []
   no_pieces = record { count = refl; each = λ k x w lt. absurd (omega (arith, lt)) }
 
@@ -65,7 +65,7 @@ other_piece (y ∷ ys) zero (suc t) x lt = refl
 other_piece (y ∷ ys) (suc i) zero x lt = absurd (omega (arith, lt))
 other_piece (y ∷ ys) (suc i) (suc t) x lt = other_piece ys i t x (omega (arith, lt))
 
-module _ {b : Basis} {l : ℕ} {duty : Duty} {p : Problem} {shape : Shape} {xs : List (Box Lot)} {o : EndedOf Work} (ran : HasRun b l duty p shape xs o) where
+module _ {b : StepBasis} {l : ℕ} {duty : Duty} {p : Problem} {shape : Shape} {xs : List (Box Lot)} {o : EndedOf Work} (ran : HasRun b l duty p shape xs o) where
   raw_piece : (t : ℕ) → t < length xs → Work
   raw_piece t lt = first_of ran.raw t (omega (arith, lt, ran.are.count))
 

@@ -19,7 +19,7 @@ use Rattle.amr_lots.specs.declared.lot.Lot.{Lot}
 use Rattle.amr_lots.specs.declared.lot.Workspace.{Workspace}
 use Rattle.amr_lots.specs.Ready.{HasFlowsIn}
 use Rattle.amr_lots.specs.Runs.{IsDelivered, KeepAllButEdges, KeepOthers, run}
-use Rattle.amr_lots.specs.Serving.{HasSent}
+use Rattle.amr_lots.specs.Duties.{HasSent}
 use Rattle.amr_lots.specs.Works.{KeepsLayout, places_read}
 use Rattle.amr_patch.specs.declared.patches.Patch.{Patch}
 use Rattle.amr_patch.specs.Patches.{box}

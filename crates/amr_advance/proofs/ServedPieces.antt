@@ -6,13 +6,13 @@ use Rattle.std.specs.List.{All, AllZip}
 use Rattle.amr_def.specs.declared.problem.Problem.{Problem}
 use Rattle.amr_board.specs.declared.board.Shape.{Shape}
 use Rattle.amr_board.specs.Ended.{EndedOf, total_of}
-use Rattle.amr_lots.specs.declared.lot.Basis.{Basis}
+use Rattle.amr_lots.specs.declared.lot.StepBasis.{StepBasis}
 use Rattle.amr_lots.specs.declared.lot.Duty.{Duty}
 use Rattle.amr_lots.specs.declared.lot.Duty.TheVariants.{Correct, Keep, Send, Step}
 use Rattle.amr_lots.specs.declared.lot.Lot.{Lot}
 use Rattle.amr_lots.specs.declared.lot.Work.{Work}
 use Rattle.amr_lots.specs.Ready.{MayBeginIn}
-use Rattle.amr_lots.specs.Serving.{IsServed, MayServe}
+use Rattle.amr_lots.specs.Duties.{IsServed, MayServe}
 use Rattle.amr_lots.specs.Works.{IsUnderWay, StandsForIn, adds_in, adds_of_work, puts_in, puts_of_work}
 use Rattle.amr_phase.specs.declared.plan.Task.{Task}
 use Rattle.amr_phase.specs.Plans.{IsPlan, PlanOf, added, named, no_task, planned_total, total}
@@ -80,7 +80,7 @@ tasks_none (w ∷ ws) h =
     let rest = tasks_none ws (λ k v lt. h (suc k) v (omega (arith, lt))) in
     λ i. record { puts = first.0 i; adds = first.1 i } ∷ rest i
 
-module _ (b : Basis) (l : ℕ) (d : Duty) (p : Problem) (of_p : b.problem.value ≡ p) (xs : List (Box Lot)) (may : All (λ (x : Box Lot). MayServe d x.value) xs) where
+module _ (b : StepBasis) (l : ℕ) (d : Duty) (p : Problem) (of_p : b.problem.value ≡ p) (xs : List (Box Lot)) (may : All (λ (x : Box Lot). MayServe d x.value) xs) where
   module _ (ws : List Work) (raw : ArePieces b l d xs ws) where
     one : (k : ℕ) (w : Work) → k < length ws → IsPiece b l d k (get_or xs k w.lot) (get_or ws k w)
     one k w lt = raw.each k w.lot w (omega (arith, lt, raw.count))
@@ -116,7 +116,7 @@ module _ (b : Basis) (l : ℕ) (d : Duty) (p : Problem) (of_p : b.problem.value 
 
 -- ---- lots that made their step
 
-done_as_many : (b : Basis) (l k : ℕ) (x y : Box Lot) (w : Work) → IsPiece b l Step k x w → IsDone w y → HasAsMany x y
+done_as_many : (b : StepBasis) (l k : ℕ) (x y : Box Lot) (w : Work) → IsPiece b l Step k x w → IsDone w y → HasAsMany x y
 done_as_many b l k x y w one done =
     let under : IsUnderWay w done.piece = subst (λ (e : Duty). StandsForIn e w done.piece) one.of_duty done.stands.does in
     let vs = w.lot.value.edges.items in
@@ -130,7 +130,7 @@ done_as_many b l k x y w one done =
 pub as_many_itself : (xs : List (Box Lot)) → AllZip HasAsMany xs xs
 as_many_itself xs = zip_places HasAsMany xs xs refl (λ k x lt. record { patches = refl; edges = refl })
 
-module _ {b : Basis} {l : ℕ} {p : Problem} {shape : Shape} {xs : List (Box Lot)} {o : EndedOf Work} (ran : HasRun b l Step p shape xs o) (many : ℕ) (ys : List (Box Lot)) (same : many ≡ length xs) (h : AreCollected o many ys) where
+module _ {b : StepBasis} {l : ℕ} {p : Problem} {shape : Shape} {xs : List (Box Lot)} {o : EndedOf Work} (ran : HasRun b l Step p shape xs o) (many : ℕ) (ys : List (Box Lot)) (same : many ≡ length xs) (h : AreCollected o many ys) where
   pub as_many_lots : AllZip HasAsMany xs ys
   as_many_lots = zip_places HasAsMany xs ys (sym same ∙ sym h.count) (λ k x lt.
       let w0 = first_of ran.raw k (omega (arith, lt, ran.are.count)) in

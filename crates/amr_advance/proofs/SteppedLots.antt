@@ -16,11 +16,11 @@ use Rattle.amr_ghost.specs.Frames.{old_masses}
 use Rattle.amr_layout.specs.Posts.{patch_plan}
 use Rattle.amr_layout.specs.Surroundings.{Around, around}
 use Rattle.amr_layout.proofs.Planned.{nth}
-use Rattle.amr_lots.specs.declared.lot.Basis.{Basis}
+use Rattle.amr_lots.specs.declared.lot.StepBasis.{StepBasis}
 use Rattle.amr_lots.specs.declared.lot.Duty.TheVariants.{Step}
 use Rattle.amr_lots.specs.declared.lot.Lot.{Lot}
 use Rattle.amr_lots.specs.declared.lot.Work.{Work}
-use Rattle.amr_lots.specs.Filling.{HasValuesBy, HasValuesOrLevel}
+use Rattle.amr_lots.specs.FrameValues.{HasValuesBy, HasValuesOrLevel}
 use Rattle.amr_lots.specs.Lots.{IsStepped}
 use Rattle.amr_lots.specs.Runs.{KeepAllButEdges, KeepOthers, run}
 use Rattle.amr_patch.specs.declared.levels.Level.{Level as Held}
@@ -34,7 +34,7 @@ use Rattle.amr_advance.specs.Lots.{AreLots, AreMade, AreSeveralLots, CarryMasses
 use Rattle.amr_advance.specs.Phases.{ArePieces, HasAsMany, HaveMadeStep, IsBasisOf, IsDone, MayBeRun}
 use Rattle.amr_advance.specs.Registers.{AreEdgesFor}
 use Rattle.amr_advance.specs.Steps.{AreFound, AreTotalsOf, HaveStepped, LotsMadeStep}
-use Rattle.amr_advance.specs.Handing.{AreHanded, AreLent, HaveBeenHanded}
+use Rattle.amr_advance.specs.Handed.{AreHanded, AreLent, HaveBeenHanded}
 use Rattle.amr_advance.proofs.BackEdges.{again_none, all_nets, all_same, all_small}
 use Rattle.amr_advance.proofs.Begin.{plan_total}
 use Rattle.amr_advance.proofs.Beside.{may_be_run}
@@ -116,7 +116,7 @@ module _ {p : Problem} {l : ℕ} {old : Masses} {ps : List Patch} {cells : List 
     xs_count = d.all.lots.count
 
     -- their pieces may be run
-    pub may_run : (b : Basis) (coarse : Option Held) → IsBasisOf p ps coarse b → old_masses coarse ≡ old → (ws : List Work) → ArePieces b l Step xs ws → MayBeRun p t.shape ws
+    pub may_run : (b : StepBasis) (coarse : Option Held) → IsBasisOf p ps coarse b → old_masses coarse ≡ old → (ws : List Work) → ArePieces b l Step xs ws → MayBeRun p t.shape ws
     may_run b coarse of_b coarser ws raw =
         may_be_run level several d lists b coarse of_b coarser ws raw (patch_plan s t.each (plain_size p l (masses_in ps) old)) (fine_plan p l old ps cells next t.each fine_is)
         (are_planned p l old ps cells next t.each level.shallow level.apart (all_lie p l ps level.inside) fine_is)
@@ -181,7 +181,7 @@ module _ {p : Problem} {l : ℕ} {old : Masses} {ps : List Patch} {cells : List 
 
           -- ---- done
 
-          module _ (basis : Basis) (coarse : Option Held) (of_b : IsBasisOf p ps coarse basis) (coarser : old_masses coarse ≡ old) (u' : Lots) (is_ys : u'.lots.items ≡ ys) (done : HaveMadeStep basis l xs t u') where
+          module _ (basis : StepBasis) (coarse : Option Held) (of_b : IsBasisOf p ps coarse basis) (coarser : old_masses coarse ≡ old) (u' : Lots) (is_ys : u'.lots.items ≡ ys) (done : HaveMadeStep basis l xs t u') where
             made_all : HaveMade level ys
             made_all = made level ys d basis coarse of_b coarser done.raw done.are (sym (length_all_zip HasAsMany xs ys many)) (λ k w x lt. subst (λ (zs' : List (Box Lot)). IsDone (get_or done.raw k w) (get_or zs' k x)) is_ys (done.lots k w x (let n = xs_count in omega (arith, lt, n))))
 

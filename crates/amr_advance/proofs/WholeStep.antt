@@ -21,9 +21,9 @@ use Rattle.amr_layout.proofs.LevelFlowLists.{flows_here}
 use Rattle.amr_layout.proofs.Planned.{nth}
 use Rattle.amr_lots.specs.declared.lot.Lot.{Lot}
 use Rattle.amr_lots.specs.declared.lot.Workspace.{Workspace}
-use Rattle.amr_lots.specs.Filling.{HasValuesBy, HasValuesOrLevel, AreFilled, HasFoundOuter}
+use Rattle.amr_lots.specs.FrameValues.{HasValuesBy, HasValuesOrLevel, AreFilled, HasFoundOuter}
 use Rattle.amr_lots.specs.Ready.{CanStep, HasFlowsIn}
-use Rattle.amr_lots.specs.Stepping.{HasSteppedAlone, HaveEdgeNets}
+use Rattle.amr_lots.specs.LotSteps.{HasSteppedAlone, HaveEdgeNets}
 use Rattle.amr_lots.specs.Lots.{AreEdgeFlows, AreReady, HasStepped, IsStepped, lot_total}
 use Rattle.amr_lots.specs.Runs.{run}
 use Rattle.amr_patch.specs.declared.levels.Level.{Level as Held}

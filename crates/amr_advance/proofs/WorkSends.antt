@@ -16,7 +16,7 @@ use Rattle.amr_layout.proofs.alone.LevelFlows.TheSendSync.{the_send as flows_sen
 use Rattle.amr_layout.proofs.PatchLayout.TheSendSync.{the_send as layout_send}
 use Rattle.amr_lots.proofs.lot.Correction.TheSendSync.{the_send as correction_send}
 use Rattle.amr_lots.proofs.lot.Duty.TheSendSync.{the_send as duty_send}
-use Rattle.amr_lots.proofs.lot.Stage.TheSendSync.{the_send as stage_send}
+use Rattle.amr_lots.proofs.lot.LotStage.TheSendSync.{the_send as stage_send}
 use Rattle.amr_lots.specs.contracts.lot.Workspace.{the_row as workspace_row, the_type as workspace_type}
 use Rattle.amr_lots.specs.contracts.lot.Lot.{the_row as lot_row, the_type as lot_type}
 use Rattle.amr_lots.specs.contracts.lot.Work.{the_row as work_row, the_type as work_type}

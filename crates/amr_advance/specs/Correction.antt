@@ -5,7 +5,7 @@ use Rattle.std.specs.List.{Contains}
 use Rattle.amr_box.specs.declared.Cell.{Cell}
 use Rattle.amr_box.specs.Cells.{parent}
 use Rattle.amr_def.specs.State.{children_mass, mass_of}
-use Rattle.amr_lots.specs.Correcting.{finer_in, register_in, with_correction}
+use Rattle.amr_lots.specs.Corrections.{finer_in, register_in, with_correction}
 use Rattle.amr_lots.specs.declared.lot.Correction.{Correction}
 use Rattle.amr_lots.specs.declared.lot.Lot.{Lot}
 use Rattle.amr_patch.specs.declared.levels.Level.{Level}

@@ -1,11 +1,11 @@
+pub mod Correction
 pub mod Crews
-pub mod Phases
-pub mod Outer
-pub mod Lots
-pub mod Handing
 pub mod Cuts
+pub mod Handed
 pub mod Kept
+pub mod Lots
+pub mod Outer
+pub mod Phases
 pub mod Registers
 pub mod Steps
 pub mod Totals
-pub mod Correction

@@ -31,7 +31,7 @@ use Rattle.amr_layout.specs.Posts.{AreSmallSizes, patch_plan}
 use Rattle.amr_layout.specs.Surroundings.{Around, domain_around, edge_count}
 use Rattle.amr_lots.specs.declared.lot.Lot.{Lot}
 use Rattle.amr_lots.specs.declared.lot.Workspace.{Workspace}
-use Rattle.amr_lots.specs.Filling.{HasValuesBy}
+use Rattle.amr_lots.specs.FrameValues.{HasValuesBy}
 use Rattle.amr_lots.specs.Ready.{HasFlowsIn}
 use Rattle.amr_lots.specs.Runs.{lot_count, run}
 use Rattle.amr_lots.specs.Works.{places_read}

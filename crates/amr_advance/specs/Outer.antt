@@ -12,7 +12,7 @@ use Rattle.amr_def.specs.declared.problem.Problem.{Problem}
 use Rattle.amr_patch.specs.declared.levels.Level.{Level}
 use Rattle.amr_ghost.specs.Outer.{HasOuterPlaces, lent}
 use Rattle.amr_ghost.specs.declared.outer.OuterGhosts.{OuterGhosts}
-use Rattle.amr_lots.specs.Filling.{HasValuesBy, HasValuesOrLevel, with_outer}
+use Rattle.amr_lots.specs.FrameValues.{HasValuesBy, HasValuesOrLevel, with_outer}
 use Rattle.amr_lots.specs.declared.lot.Lot.{Lot}
 
 -- a share of the next coarser level, where there is one

@@ -18,18 +18,18 @@ use Rattle.amr_board.specs.BoardOf.{BoardOf, IsSeatOf, view}
 use Rattle.amr_board.specs.Views.{first_view}
 use Rattle.amr_board.specs.Ended.{EndedOf, face_of, total_of}
 use Rattle.amr_board.specs.Piece.{plan_of}
-use Rattle.amr_lots.specs.declared.lot.Basis.{Basis}
+use Rattle.amr_lots.specs.declared.lot.StepBasis.{StepBasis}
 use Rattle.amr_lots.specs.declared.lot.Duty.{Duty}
 use Rattle.amr_lots.specs.declared.lot.Duty.TheVariants.{Step}
 use Rattle.amr_lots.specs.declared.lot.Lot.{Lot}
-use Rattle.amr_lots.specs.declared.lot.Stage.TheVariants.{Finished, Raw}
+use Rattle.amr_lots.specs.declared.lot.LotStage.TheVariants.{Finished, Raw}
 use Rattle.amr_lots.specs.declared.lot.Work.{Work}
 use Rattle.amr_lots.specs.Ready.{MayBegin, MayComplete}
 use Rattle.amr_lots.specs.Works.{StandsFor, adds_of_work, coarser_of, puts_of_work}
 use Rattle.amr_advance.specs.declared.lots.Lots.{Lots}
 
 -- what a phase is worked out from: a problem, the patches of a level, and the next coarser level, where there is one
-pub record IsBasisOf (p : Problem) (qs : List Patch) (old : Option Level) (b : Basis) : Type 0 where
+pub record IsBasisOf (p : Problem) (qs : List Patch) (old : Option Level) (b : StepBasis) : Type 0 where
   pub problem : b.problem.value ≡ p
   pub patches : b.patches.value.items ≡ qs
   pub coarser : coarser_of b ≡ old_masses old
@@ -37,7 +37,7 @@ pub record IsBasisOf (p : Problem) (qs : List Patch) (old : Option Level) (b : B
 -- ---- pieces
 
 -- the raw piece of a task, whose lot this is
-pub record IsPiece (b : Basis) (l : ℕ) (duty : Duty) (task : ℕ) (x : Box Lot) (w : Work) : Type 0 where
+pub record IsPiece (b : StepBasis) (l : ℕ) (duty : Duty) (task : ℕ) (x : Box Lot) (w : Work) : Type 0 where
   pub of_task : w.task ≡ task
   pub of_level : w.level ≡ l
   pub of_duty : w.duty ≡ duty
@@ -46,7 +46,7 @@ pub record IsPiece (b : Basis) (l : ℕ) (duty : Duty) (task : ℕ) (x : Box Lot
   pub of_basis : w.basis.value ≡ b
 
 -- one for each lot, by number
-pub record ArePieces (b : Basis) (l : ℕ) (duty : Duty) (xs : List (Box Lot)) (ws : List Work) : Type 0 where
+pub record ArePieces (b : StepBasis) (l : ℕ) (duty : Duty) (xs : List (Box Lot)) (ws : List Work) : Type 0 where
   pub count : length ws ≡ length xs
   pub each : (k : ℕ) (x : Box Lot) (w : Work) → k < length xs → IsPiece b l duty k (slice_index_or xs k x) (slice_index_or ws k w)
 
@@ -60,7 +60,7 @@ pub record MayBeRun (p : Problem) (shape : Shape) (ws : List Work) : Type 0 wher
   pub begin : All (MayBegin p (planned shape ws)) ws
 
 -- a board of a phase of lots, before its first task is drawn, and its only seat
-pub record IsOpened (b : Basis) (l : ℕ) (duty : Duty) (p : Problem) (shape : Shape) (xs : List (Box Lot)) (board : BoardOf Work)
+pub record IsOpened (b : StepBasis) (l : ℕ) (duty : Duty) (p : Problem) (shape : Shape) (xs : List (Box Lot)) (board : BoardOf Work)
     (seat : Seat (Option Work) (View Work)) : Type 0 where
   pub are : ArePieces b l duty xs board.pieces
   pub plan : board.plan ≡ planned shape board.pieces
@@ -92,7 +92,7 @@ abbrev pub HasPieces : EndedOf Work → List Work → ℕ → Type 0
 HasPieces o ws from = (t : ℕ) (w : Work) → from ≤ t → t < length ws → HasPiece o ws t w
 
 -- a phase of lots was run on it, in pieces that may be so
-pub record HasRun (b : Basis) (l : ℕ) (duty : Duty) (p : Problem) (shape : Shape) (xs : List (Box Lot)) (o : EndedOf Work) : Type 0 where
+pub record HasRun (b : StepBasis) (l : ℕ) (duty : Duty) (p : Problem) (shape : Shape) (xs : List (Box Lot)) (o : EndedOf Work) : Type 0 where
   pub raw : List Work
   pub are : ArePieces b l duty xs raw
   pub may : MayBeRun p shape raw
@@ -126,7 +126,7 @@ pub record AreCollected (o : EndedOf Work) (many : ℕ) (xs : List (Box Lot)) : 
   pub each : (t : ℕ) (w : Work) (x : Box Lot) → t < many → IsPieceOf o t w → IsCollected w (slice_index_or xs t x)
 
 -- a phase of lots was run on a board, which was closed and gave them back. What is left of it has its words
-pub record HaveRun (b : Basis) (l : ℕ) (duty : Duty) (p : Problem) (shape : Shape) (xs ys : List (Box Lot)) (left : EndedOf Work) : Type 0 where
+pub record HaveRun (b : StepBasis) (l : ℕ) (duty : Duty) (p : Problem) (shape : Shape) (xs ys : List (Box Lot)) (left : EndedOf Work) : Type 0 where
   pub closed : EndedOf Work
   pub run : HasRun b l duty p shape xs closed
   pub collected : AreCollected closed (length xs) ys
@@ -139,7 +139,7 @@ pub record HasAsMany (a b : Box Lot) : Type 0 where
   pub edges : length b.value.edges.items ≡ length a.value.edges.items
 
 -- the lots xs made their step, and the totals are those of what they posted
-pub record HaveMadeStep (b : Basis) (l : ℕ) (xs : List (Box Lot)) (old new : Lots) : Type 0 where
+pub record HaveMadeStep (b : StepBasis) (l : ℕ) (xs : List (Box Lot)) (old new : Lots) : Type 0 where
   pub raw : List Work
   pub are : ArePieces b l Step xs raw
   pub count : length new.lots.items ≡ length xs

@@ -20,7 +20,7 @@ use Rattle.amr_flows.specs.Laws.{plain_size}
 use Rattle.amr_flows.specs.Words.{level_total}
 use Rattle.amr_layout.specs.Adds.{HasRegisterCells}
 use Rattle.amr_layout.specs.Surroundings.{Around, around, domain_around, finer_masses}
-use Rattle.amr_lots.specs.Filling.{HasValuesBy, HasValuesOrLevel}
+use Rattle.amr_lots.specs.FrameValues.{HasValuesBy, HasValuesOrLevel}
 use Rattle.amr_lots.specs.Lots.{IsStepped, LevelStepFits}
 use Rattle.amr_register.specs.declared.edges.EdgeCell.{EdgeCell}
 use Rattle.amr_register.specs.declared.register.Register.{Register}

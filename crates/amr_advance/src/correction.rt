@@ -8,7 +8,7 @@ ghost use Rattle.std.specs.List.{All, AllZip};
 ghost use Rattle.amr_box.specs.declared.Cell.{Cell};
 ghost use Rattle.amr_def.specs.declared.problem.Problem.{Problem};
 ghost use Rattle.amr_def.specs.State.{children_mass};
-ghost use Rattle.amr_lots.specs.Correcting.{AreCorrectedBy, FitsEntries, IsReady, finer_in, register_in, with_correction};
+ghost use Rattle.amr_lots.specs.Corrections.{AreCorrectedBy, FitsEntries, IsReady, finer_in, register_in, with_correction};
 ghost use Rattle.amr_lots.specs.declared.lot.Duty.TheVariants.{Correct};
 ghost use Rattle.amr_lots.specs.declared.lot.Lot.{Lot as lot};
 ghost use Rattle.amr_patch.specs.Levels.{level_of, patches_of};

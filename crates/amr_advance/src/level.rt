@@ -5,8 +5,8 @@ ghost use Rattle.std.specs.List.{All, AllZip};
 ghost use Rattle.std.specs.Global.{Box as boxed};
 ghost use Rattle.amr_lots.specs.Ready.{CanStep};
 ghost use Rattle.amr_lots.specs.Runs.{KeepAllButEdges, run};
-ghost use Rattle.amr_lots.specs.Serving.{HasSent, MaySend};
-ghost use Rattle.amr_lots.specs.Stepping.{HasSteppedAlone};
+ghost use Rattle.amr_lots.specs.Duties.{HasSent, MaySend};
+ghost use Rattle.amr_lots.specs.LotSteps.{HasSteppedAlone};
 ghost use Rattle.amr_lots.specs.declared.lot.Duty.TheVariants.{Step};
 ghost use Rattle.amr_lots.specs.declared.lot.Lot.{Lot as lot};
 ghost use Rattle.amr_patch.specs.Patches.{box, masses_in};
@@ -14,7 +14,7 @@ ghost use Rattle.amr_register.specs.EdgeCells.{SameEdges, lists_of};
 ghost use Rattle.amr_advance.specs.Crews.{MayRun};
 ghost use Rattle.amr_advance.specs.Kept.{ServesLevel};
 ghost use Rattle.amr_advance.specs.Lots.{AreLots, AreLotsOf, is_one};
-ghost use Rattle.amr_advance.specs.Handing.{HaveBeenHanded};
+ghost use Rattle.amr_advance.specs.Handed.{HaveBeenHanded};
 ghost use Rattle.amr_advance.specs.Phases.{HasAsMany, HaveMadeStep, IsOpened};
 ghost use Rattle.amr_advance.specs.Registers.{AreEdgesFor};
 ghost use Rattle.amr_advance.specs.Steps.{CanMakeStep, HasMadeStep, LotsMadeStep, HaveSettled, MayMakeStep, MayStepLevel, around_of, coarser_masses};
@@ -29,7 +29,8 @@ use amr_box::Cell;
 use amr_causes::NoMemory;
 use amr_def::Problem;
 use amr_lots::{
-    Basis, Duty, Lot, Work, Workspace, exchange_edges, exchange_messages, exchange_runs, step_alone,
+    Duty, Lot, StepBasis, Work, Workspace, exchange_edges, exchange_messages, exchange_runs,
+    step_alone,
 };
 use amr_patch::{Level, Patch};
 use amr_register::EdgeCell;
@@ -52,7 +53,7 @@ pub struct StepInput<'a> {
     pub finer: Option<&'a Level>,
     pub cells: &'a [Cell],
     /// What the step is worked out from, for contracts alone.
-    pub basis: &'a Basis,
+    pub basis: &'a StepBasis,
 }
 
 /// The phase of the level's lots in which they do this.

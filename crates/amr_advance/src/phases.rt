@@ -7,7 +7,7 @@ ghost use Rattle.std.specs.Global.{Box as boxed};
 ghost use Rattle.amr_board.specs.declared.board.Shape.{Shape as form};
 ghost use Rattle.amr_board.specs.Ended.{total_of};
 ghost use Rattle.amr_board.specs.MakeFault.{pieces_back};
-ghost use Rattle.amr_lots.specs.Serving.{IsServed, MayServe};
+ghost use Rattle.amr_lots.specs.Duties.{IsServed, MayServe};
 ghost use Rattle.amr_lots.specs.declared.lot.Duty.TheVariants.{Step};
 ghost use Rattle.amr_lots.specs.declared.lot.Lot.{Lot as lot};
 ghost use Rattle.amr_lots.specs.declared.lot.Work.{Work as piece};
@@ -19,7 +19,7 @@ use crate::lots::Lots;
 use amr_board::{Board, Ended, MakeFault, Seat, Shape};
 use amr_causes::NoMemory;
 use amr_def::Problem;
-use amr_lots::{Basis, Duty, Lot, Stage, Work, complete, serve};
+use amr_lots::{Duty, Lot, LotStage, StepBasis, Work, complete, serve};
 use amr_patch::{Level, Patch};
 use amr_workers::Gate;
 use std::alloc::Global;
@@ -36,18 +36,18 @@ pub(crate) struct PhaseInput<'a> {
     pub(crate) problem: &'a Problem,
     pub(crate) level: u32,
     pub(crate) duty: Duty,
-    pub(crate) basis: &'a Basis,
+    pub(crate) basis: &'a StepBasis,
 }
 
 /// What a phase of the lots of a level with these patches is worked out from, for contracts alone.
-pub(crate) fn basis_of(p: &Problem, patches: &Vec<Patch>, old: Option<&Level>) -> Basis
+pub(crate) fn basis_of(p: &Problem, patches: &Vec<Patch>, old: Option<&Level>) -> StepBasis
     ensures { IsBasisOf p.now patches.now.items (option_copied old.entry) result }
 {
     let coarser = match old {
         Some(level) => Some(Snapshot::of(level)),
         None => None,
     };
-    Basis {
+    StepBasis {
         problem: Snapshot::of(p),
         patches: Snapshot::of(patches),
         coarser,
@@ -72,7 +72,7 @@ fn to_pieces(phase: PhaseInput<'_>, lots: Vec<Box<Lot>>, mut pieces: Vec<Work>) 
             task: pieces.len() as u32,
             level: phase.level,
             duty: phase.duty,
-            stage: Stage::Raw,
+            stage: LotStage::Raw,
             lot,
             basis: Snapshot::of(phase.basis),
         });

@@ -1,5 +1,5 @@
 -- What the forms and bases of the code stand for.
-use Rattle.std.specs.Prelude.{◌≡◌, ℕ, false, pos, ◌+ℤ◌, List, map}
+use Rattle.std.specs.Prelude.{◌≡◌, ℕ, ◌+◌, ◌<◌, false, pos, ◌+ℤ◌, List, map, slice_index}
 use denote.Ref.{Bor}
 use Rattle.std.specs.List.{range_with_len}
 use Rattle.std.specs.declared.option.Option.{Option}
@@ -40,6 +40,10 @@ IsBasisOf p (Older m) = (is_spent m.now ≡ false) × IsSound p (state_of m.now)
 -- the cell in a row and column of a box, each counted from its low corner, is there and has this mass
 abbrev pub HasMassAt : Masses → Extent → ℕ → ℕ → ℕ → Type 0
 HasMassAt m b row column n = m (cell (b.lo.x +ℤ pos column) (b.lo.y +ℤ pos row)) ≡ Some n
+
+-- the first n cells of a row from a column on have these masses
+abbrev pub HaveMassesFrom : Masses → Extent → ℕ → ℕ → List ℕ → ℕ → Type 0
+HaveMassesFrom m b row first masses n = (k : ℕ) → k < n → HasMassAt m b row (first + k) (slice_index masses k)
 
 -- the cells of a row of a box, from the low column on
 abbrev pub cells_of_row : Extent → ℕ → List Cell

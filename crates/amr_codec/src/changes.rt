@@ -7,7 +7,7 @@ ghost use Rattle.amr_box.specs.Cells.{IsNear, width};
 ghost use Rattle.amr_patch.specs.BoxRows.{HasCellsOf, mass_in};
 ghost use Rattle.amr_patch.specs.Levels.{level_of};
 ghost use Rattle.amr_payload.specs.Payload.{cell_rows, changed_bytes, masses_bytes};
-ghost use Rattle.amr_codec.specs.Forms.{HasMassAt, cells_of_row, form_of, masses_before};
+ghost use Rattle.amr_codec.specs.Forms.{HasMassAt, HaveMassesFrom, cells_of_row, form_of, masses_before};
 
 use crate::basis::Form;
 use crate::numbers::{MassWidth, put_flag};
@@ -45,8 +45,8 @@ fn span_with(level: &Level, near: &mut usize, b: &Bx, row: u32, first: u32, mass
     requires some { 0 < length masses.now }
     requires columns { first + length masses.now ≤ width b.now }
     ensures within { result ≤ length masses.now }
-    ensures same { (k : ℕ) → k < result → HasMassAt (level_of level.now).masses b.now row (first + k) (slice_index masses.now k) }
-    ensures none { result ≡ 0 → ((k : ℕ) → k < length masses.now → HasMassAt (level_of level.now).masses b.now row (first + k) (slice_index masses.now k)) → ⊥ }
+    ensures same { HaveMassesFrom (level_of level.now).masses b.now row first masses.now result }
+    ensures none { result ≡ 0 → HaveMassesFrom (level_of level.now).masses b.now row first masses.now (length masses.now) → ⊥ }
 {
     match span_near(level, near, cell_in(b, row, first)) {
         None => 0,
@@ -66,7 +66,7 @@ fn level_has(level: &Level, near: &mut usize, b: &Bx, row: u32, first: u32, mass
     requires near { IsNear b.now }
     requires row { (b.now.lo.y +ℤ pos row) ≤ℤ b.now.hi.y }
     requires columns { first + length masses.now ≤ width b.now }
-    ensures { IsTrue result ↔ ((k : ℕ) → k < length masses.now → HasMassAt (level_of level.now).masses b.now row (first + k) (slice_index masses.now k)) }
+    ensures { IsTrue result ↔ HaveMassesFrom (level_of level.now).masses b.now row first masses.now (length masses.now) }
 {
     let mut done = 0;
     while done < masses.len() {
@@ -91,7 +91,7 @@ fn has_masses_near(
     requires near { IsNear b.now }
     requires row { (b.now.lo.y +ℤ pos row) ≤ℤ b.now.hi.y }
     requires columns { first + length masses.now ≤ width b.now }
-    ensures { IsTrue result ↔ ((k : ℕ) → k < length masses.now → HasMassAt (masses_before old.entry) b.now row (first + k) (slice_index masses.now k)) }
+    ensures { IsTrue result ↔ HaveMassesFrom (masses_before old.entry) b.now row first masses.now (length masses.now) }
 {
     match old {
         None => masses.is_empty(),
@@ -105,7 +105,7 @@ pub fn has_masses(old: Option<&Level>, b: &Bx, row: u32, first: u32, masses: &[u
     requires near { IsNear b.now }
     requires row { (b.now.lo.y +ℤ pos row) ≤ℤ b.now.hi.y }
     requires columns { first + length masses.now ≤ width b.now }
-    ensures { IsTrue result ↔ ((k : ℕ) → k < length masses.now → HasMassAt (masses_before old.entry) b.now row (first + k) (slice_index masses.now k)) }
+    ensures { IsTrue result ↔ HaveMassesFrom (masses_before old.entry) b.now row first masses.now (length masses.now) }
 {
     let mut near = 0;
     has_masses_near(old, &mut near, b, row, first, masses)

@@ -10,7 +10,7 @@ use Rattle.amr_box.proofs.Numbers.{is_between, less_and_more, minus_one, plus_ze
 use Rattle.amr_def.specs.Domain.{Domain, home_cell, in_domain, is_inside, wrapped}
 use Rattle.std.specs.List.{list_any}
 use Rattle.amr_def.specs.Tags.{differs_by, neighbours}
-use Rattle.amr_ghost.specs.Filling.{LiesInDomain}
+use Rattle.amr_ghost.specs.GhostCells.{LiesInDomain}
 use Rattle.amr_patch.specs.declared.patches.Patch.{Patch}
 use Rattle.amr_patch.specs.Patches.{box, value_in}
 use Rattle.amr_patch.proofs.Rows.{IsIn, inside}

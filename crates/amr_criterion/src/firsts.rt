@@ -4,7 +4,7 @@ ghost use Rattle.std.specs.Prelude.{◌≡◌, ◌≤◌, ◌+ℤ◌, ◌-ℤ◌
 ghost use Rattle.amr_box.specs.declared.Axis.TheVariants.{X, Y};
 ghost use Rattle.amr_box.specs.Cells.{IsNear};
 ghost use Rattle.amr_def.specs.Domain.{domain_of};
-ghost use Rattle.amr_ghost.specs.Filling.{LiesInDomain};
+ghost use Rattle.amr_ghost.specs.GhostCells.{LiesInDomain};
 ghost use Rattle.amr_criterion.specs.Tagged.{AreReached, reach_high, reach_low};
 
 use amr_box::{Axis, Bx, Cell, distance};

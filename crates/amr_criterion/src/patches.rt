@@ -4,7 +4,7 @@ ghost use Rattle.std.specs.Prelude.{◌≡◌, ℕ, ◌+◌, ◌<◌, ◌≤◌,
 ghost use Rattle.std.specs.List.{list_any};
 ghost use Rattle.amr_box.specs.Cells.{IsNear, cell, holds, width};
 ghost use Rattle.amr_def.specs.Domain.{domain_of};
-ghost use Rattle.amr_ghost.specs.Filling.{LiesInDomain};
+ghost use Rattle.amr_ghost.specs.GhostCells.{LiesInDomain};
 ghost use Rattle.amr_ghost.specs.Frames.{AreInDomain};
 ghost use Rattle.amr_patch.specs.Patches.{box, value_in};
 ghost use Rattle.amr_criterion.specs.Pairs.{IsJoined, in_steep_pair};

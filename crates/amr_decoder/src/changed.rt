@@ -38,7 +38,7 @@ fn copy_row(
     requires near { IsNear b.now }
     requires inside { (b.now.lo.y +ℤ pos j) ≤ℤ b.now.hi.y }
     ensures cells { IfOk result (λ yes. yes ≡ list_all (λ c. is_some ((level_of level.now).masses c)) (cells_of_row b.now j)) }
-    ensures masses { IfOk result (λ yes. IsTrue yes → masses.new.items ≡ masses.old.items ++ map (mass_of (level_of level.now).masses) (cells_of_row b.now j)) }
+    ensures masses { IfOk result (λ ok. IsTrue ok → masses.new.items ≡ masses.old.items ++ map (mass_of (level_of level.now).masses) (cells_of_row b.now j)) }
 {
     let columns = b.width();
     let mut here = *near;
@@ -71,7 +71,7 @@ fn copy_old_row(
     requires near { IsNear b.now }
     requires inside { (b.now.lo.y +ℤ pos j) ≤ℤ b.now.hi.y }
     ensures cells { IfOk result (λ yes. yes ≡ list_all (λ c. is_some (masses_before old.entry c)) (cells_of_row b.now j)) }
-    ensures masses { IfOk result (λ yes. IsTrue yes → masses.new.items ≡ masses.old.items ++ map (mass_of (masses_before old.entry)) (cells_of_row b.now j)) }
+    ensures masses { IfOk result (λ ok. IsTrue ok → masses.new.items ≡ masses.old.items ++ map (mass_of (masses_before old.entry)) (cells_of_row b.now j)) }
 {
     match old {
         None => Ok(false),

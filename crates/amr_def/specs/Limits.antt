@@ -1,5 +1,6 @@
 -- The limits of a problem's numbers and lists. (profile)
-use Rattle.std.specs.Prelude.{◌≡◌, if◌then◌else◌, ℕ, ◌+◌, ◌/◌, ◌%◌, ◌^◌, ◌≤◌, max, Bool, true, ◌&&◌, ◌||◌, ◌==◌, nat_lt, nat_le, ℤ, unsigned_abs, List, [], ◌∷◌, length}
+use Rattle.std.specs.Prelude.{◌≡◌, if◌then◌else◌, ℕ, ◌+◌, ◌/◌, ◌%◌, ◌^◌, ◌≤◌, max}
+use Rattle.std.specs.Prelude.{Bool, true, ◌&&◌, ◌||◌, ◌==◌, nat_lt, nat_le, ℤ, unsigned_abs, List, [], ◌∷◌, length}
 use Rattle.std.specs.List.{list_all}
 use Rattle.amr_def.specs.declared.problem.Sides.{Sides}
 use Rattle.amr_def.specs.declared.problem.Sides.TheVariants.{Periodic, Open}

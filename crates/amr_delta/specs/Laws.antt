@@ -12,7 +12,8 @@ IsSoundLater p old s = IsSound p s × IsLater old s
 
 -- a record is read back
 abbrev pub RecordIsReadBack : Type 0
-RecordIsReadBack = (p : Problem) (old s : State) (q : ℕ) → q < 2 ^ 64 → IsSound p old → IsSoundLater p old s → delta_decoded p old q (delta_bytes old q s) ≡ Ok s
+RecordIsReadBack =
+    (p : Problem) (old s : State) (q : ℕ) → q < 2 ^ 64 → IsSound p old → IsSoundLater p old s → delta_decoded p old q (delta_bytes old q s) ≡ Ok s
 
 -- one record has one state, and one state one record
 abbrev pub RecordHasOneState : Type 0

@@ -7,10 +7,10 @@
 //! - [`record_is_read_back`], [`record_has_one_state`]: laws, each the contract of a call with an empty body.
 #![tactic(auto)]
 
-mod decoding;
-mod encoding;
+mod delta_record;
 mod laws;
+mod recorded_state;
 
-pub use decoding::decode_delta;
-pub use encoding::{delta_size, encode_delta};
+pub use delta_record::{delta_size, encode_delta};
 pub use laws::{record_has_one_state, record_is_read_back};
+pub use recorded_state::decode_delta;

@@ -60,4 +60,4 @@ kept_level_send = declared_send kept_level_type (search (parts, kept_layout_send
 pub kept_send : IsSend kept_row
 kept_send = declared_send kept_type (search (parts, kept_level_send) depth 12 fits 2000, tt)
 
-pub ruleset lanes_sendable = (kept_send, mesh_send, problem_sync, parts)
+pub ruleset lanes_sendable = (kept_send, mesh_send, problem_sync, sendable)

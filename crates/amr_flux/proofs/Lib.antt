@@ -1,4 +1,4 @@
-mod Alone
+mod Unmasked
 mod Borders
 mod Entries
 mod Exchanged

@@ -23,7 +23,7 @@ use Rattle.amr_patch.proofs.Lookups.{masses_in-at, masses_in-none, same_default}
 use Rattle.std.specs.Prelude.{slice_index_or}
 use Rattle.amr_ghost.specs.Strips.{step}
 use Rattle.amr_ghost.specs.Frames.{AreInDomain, is_of_level}
-use Rattle.amr_ghost.specs.Filling.{AreGiven, size_along}
+use Rattle.amr_ghost.specs.GhostCells.{AreGiven, size_along}
 use Rattle.amr_ghost.proofs.BoxSides.{high_inside, inside_of, low_inside}
 use Rattle.amr_ghost.proofs.Inflows.{east_inflow, north_inflow, south_inflow, west_inflow}
 use Rattle.amr_ghost.proofs.Parents.{parents_held}

@@ -19,7 +19,7 @@ use Rattle.amr_ghost.specs.Strips.{step}
 use Rattle.amr_ghost.specs.Frames.{AreInDomain, is_beside}
 use Rattle.amr_ghost.specs.declared.sides.Side.{Side}
 use Rattle.amr_ghost.specs.declared.sides.Side.TheVariants.{East, North, South, West}
-use Rattle.amr_ghost.specs.Filling.{IsGhostStrip, LiesInDomain, side_axis, side_count, side_from, size_along}
+use Rattle.amr_ghost.specs.GhostCells.{IsGhostStrip, LiesInDomain, side_axis, side_count, side_from, size_along}
 
 le_self : (z : ℤ) → int_le z z ≡ true
 le_self z = grind (arith, ints)

@@ -9,7 +9,7 @@ use Rattle.amr_patch.specs.declared.patches.Patch.{Patch}
 use Rattle.amr_patch.specs.Places.{in_frame}
 use Rattle.amr_ghost.specs.Strips.{step}
 use Rattle.amr_ghost.specs.Frames.{is_beside}
-use Rattle.amr_ghost.specs.Filling.{KeepsCells, KeepsGhosts}
+use Rattle.amr_ghost.specs.GhostCells.{KeepsCells, KeepsGhosts}
 use Rattle.amr_ghost.specs.Messages.{HasCopy, IsCopyFor, IsReceived, IsTaken}
 use Rattle.amr_ghost.specs.declared.parts.FrameCopy.{FrameCopy}
 use Rattle.amr_ghost.proofs.Carrying.{taken_of_boxes}

@@ -6,7 +6,7 @@ use Rattle.std.proofs.lemmas.Bool.Decides.{nat_tests}
 use Rattle.std.proofs.lemmas.List.{get_or-append_right, get_or-drop, get_or-take, get_or_append_left, length-drop, length-take-le, take_more}
 use borrow.Rule.Slice.PartMut.{put_mid, same_len_mid}
 use Rattle.amr_box.specs.declared.Cell.{Cell}
-use Rattle.amr_ghost.specs.Filling.{AreGiven}
+use Rattle.amr_ghost.specs.GhostCells.{AreGiven}
 use Rattle.amr_ghost.specs.Messages.{mass_count}
 use Rattle.amr_ghost.specs.Outer.{value_count}
 use Rattle.amr_ghost.specs.declared.sides.Strip.{Strip}

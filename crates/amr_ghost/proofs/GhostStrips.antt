@@ -8,7 +8,7 @@ use Rattle.amr_patch.specs.declared.patches.Patch.{Patch}
 use Rattle.amr_patch.specs.Places.{in_frame}
 use Rattle.amr_patch.specs.Patches.{box}
 use Rattle.amr_ghost.specs.Strips.{step}
-use Rattle.amr_ghost.specs.Filling.{AreGiven, HasGhosts, KeepsGhosts}
+use Rattle.amr_ghost.specs.GhostCells.{AreGiven, HasGhosts, KeepsGhosts}
 
 pub still_ghosts : (value : Cell → ℕ) (mark : Cell → Bool) (qs rs : List Patch) (i : ℕ) (q e : Patch) (axis : Axis) (c : Cell) (n : ℕ) → i < length qs → AllZip (KeepsGhosts value mark) qs rs → ((m : ℕ) → m < n → IsTrue (in_frame (box (get_or qs i q)) (step axis c m))) → HasGhosts value mark (get_or qs i q) axis c n → HasGhosts value mark (get_or rs i e) axis c n
 still_ghosts value mark qs rs i q e axis c n there kept ghosts h = record { at = λ m t. (AllZip-get_or (KeepsGhosts value mark) qs rs i q e kept there).at (step axis c m) (ghosts m t) (h.at m t) }

@@ -9,7 +9,7 @@ use Rattle.amr_box.specs.Cells.{Extent, along, cell, holds, within}
 use Rattle.amr_def.specs.Domain.{Domain, home_cell, is_inside, wrapped}
 use Rattle.amr_def.proofs.Homes.{inside-itself}
 use Rattle.amr_ghost.specs.Strips.{step}
-use Rattle.amr_ghost.specs.Filling.{size_along}
+use Rattle.amr_ghost.specs.GhostCells.{size_along}
 
 -- the cells of a strip along an axis of the domain stand for those of a strip
 pub home_step : (d : Domain) (axis : Axis) (c : Cell) (k : ℕ) → IsTrue (is_inside (size_along axis d) (along axis c)) → IsTrue (is_inside (size_along axis d) (along axis c +ℤ pos k)) → home_cell d (step axis c k) ≡ step axis (home_cell d c) k

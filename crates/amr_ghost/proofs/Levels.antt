@@ -6,7 +6,7 @@ use Rattle.amr_def.specs.declared.problem.Problem.{Problem}
 use Rattle.amr_def.specs.Domain.{domain}
 use Rattle.amr_def.proofs.Sizes.{doubled_small}
 use Rattle.amr_patch.specs.declared.patches.Patch.{Patch}
-use Rattle.amr_ghost.specs.Filling.{size_along}
+use Rattle.amr_ghost.specs.GhostCells.{size_along}
 
 -- a list that has a place has a patch
 pub some_patch : (ps : List Patch) (i : ℕ) → i < length ps → Patch

@@ -6,7 +6,7 @@ use Rattle.std.proofs.lemmas.List.{get_or-drop, get_or_default, take_more}
 use borrow.Rule.Slice.PartMut.{put_mid}
 use Rattle.amr_box.specs.declared.Cell.{Cell}
 use Rattle.amr_patch.specs.declared.patches.Patch.{Patch}
-use Rattle.amr_ghost.specs.Filling.{AreGiven, KeepsCells, KeepsGhosts}
+use Rattle.amr_ghost.specs.GhostCells.{AreGiven, KeepsCells, KeepsGhosts}
 use Rattle.amr_ghost.specs.Messages.{HasCopy, HasMadeCopies, IsCopyFor, IsFrameCopy, IsReceived}
 use Rattle.amr_ghost.specs.Outer.{AreOuterFor, AreOuterValuesFor, HasOuter, HasOuterGiven, IsSpanBeside, value_count}
 use Rattle.amr_ghost.specs.declared.outer.OuterGhosts.{OuterGhosts}

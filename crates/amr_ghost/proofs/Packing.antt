@@ -7,7 +7,7 @@ use Rattle.amr_box.specs.declared.Cell.{Cell}
 use Rattle.amr_patch.specs.declared.patches.Patch.{Patch}
 use Rattle.amr_patch.specs.Patches.{mass_in}
 use Rattle.amr_ghost.specs.Strips.{step}
-use Rattle.amr_ghost.specs.Filling.{AreGiven}
+use Rattle.amr_ghost.specs.GhostCells.{AreGiven}
 use Rattle.amr_ghost.specs.Messages.{AreMassesFor, ArePacked, mass_count}
 use Rattle.amr_ghost.specs.declared.parts.FrameCopy.{FrameCopy}
 use Rattle.amr_ghost.proofs.Counts.{before_part, copies_counted, end_part, in_part, part_given, part_length}

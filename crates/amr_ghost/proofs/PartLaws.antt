@@ -19,7 +19,7 @@ use Rattle.amr_patch.specs.Places.{in_frame}
 use Rattle.amr_patch.specs.Patches.{ArePatchesApart, box, mass_in, masses_in}
 use Rattle.amr_ghost.specs.Strips.{step}
 use Rattle.amr_ghost.specs.Frames.{AreInDomain, is_beside, is_of_level}
-use Rattle.amr_ghost.specs.Filling.{AreCopied, HasFrame, HasGhost, KeepsCells, size_along}
+use Rattle.amr_ghost.specs.GhostCells.{AreCopied, HasFrame, HasGhost, KeepsCells, size_along}
 use Rattle.amr_ghost.specs.Plans.{HasCell, IsSource, IsSpan, PlansFrames}
 use Rattle.amr_ghost.specs.Parts.{IsElsewhere, IsInParts, IsParted, IsRun, IsSourceBelow, IsSpanBelow, level_span, span_of}
 use Rattle.amr_ghost.specs.Outer.{AreOuterFor, HasNoMass, HasOuter, IsOuterSource, IsOuterSpan, IsSpanBeside}

@@ -10,7 +10,7 @@ use Rattle.amr_patch.specs.Patches.{box, in_patches}
 use Rattle.amr_patch.proofs.SameBoxes.{in_mapped}
 use Rattle.amr_ghost.specs.Strips.{step}
 use Rattle.amr_ghost.specs.Frames.{is_beside}
-use Rattle.amr_ghost.specs.Filling.{IsGhostStrip}
+use Rattle.amr_ghost.specs.GhostCells.{IsGhostStrip}
 use Rattle.amr_ghost.specs.Plans.{IsSource, IsSpan, PlansFrames}
 use Rattle.amr_ghost.specs.declared.sides.Strip.{Strip}
 use Rattle.amr_ghost.specs.declared.sources.Source.{Source}

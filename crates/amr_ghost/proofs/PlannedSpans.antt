@@ -15,7 +15,7 @@ use Rattle.amr_patch.specs.declared.patches.Patch.{Patch}
 use Rattle.amr_patch.specs.Patches.{box, in_patches}
 use Rattle.amr_patch.specs.Orders.{IsHolder}
 use Rattle.amr_ghost.specs.Strips.{HasRoom, step}
-use Rattle.amr_ghost.specs.Filling.{IsGhostStrip, side_axis, side_count, side_from}
+use Rattle.amr_ghost.specs.GhostCells.{IsGhostStrip, side_axis, side_count, side_from}
 use Rattle.amr_ghost.specs.Plans.{HasCell, HaveFrame, HaveStrip, IsSource, IsSpan, KeepSpans, StandForHeld, StandInGap}
 use Rattle.amr_ghost.specs.declared.sides.Side.{Side}
 use Rattle.amr_ghost.specs.declared.sides.Side.TheVariants.{East, North, South, West}

@@ -18,7 +18,7 @@ use Rattle.amr_ghost.specs.declared.entries.Entries.{Entries}
 use Rattle.amr_ghost.specs.declared.sides.Strip.{Strip}
 use Rattle.amr_ghost.specs.Strips.{AreWritten, nth_place, step}
 use Rattle.amr_ghost.specs.Frames.{is_beside}
-use Rattle.amr_ghost.specs.Filling.{AreCopied, AreGhostsSet, AreGiven, HasGhost, HasGhosts, KeepsCells, KeepsGhosts}
+use Rattle.amr_ghost.specs.GhostCells.{AreCopied, AreGhostsSet, AreGiven, HasGhost, HasGhosts, KeepsCells, KeepsGhosts}
 use Rattle.amr_ghost.proofs.Steps.{apart_cells, corner_apart, corner_grown, frame_grown, ghosts_refl, same_or_other}
 use Rattle.amr_ghost.proofs.StripPlaces.{nth_is, within_marks, within_values}
 use Rattle.amr_ghost.proofs.WrittenEntries.{same_written}

@@ -22,7 +22,7 @@ use Rattle.amr_patch.proofs.Entries.{in_grown}
 use Rattle.amr_patch.proofs.Lookups.{masses_in-at, same_default}
 use Rattle.amr_ghost.specs.Strips.{HasRoom, step}
 use Rattle.amr_ghost.specs.Frames.{is_of_level}
-use Rattle.amr_ghost.specs.Filling.{AreCopied, IsGhostStrip, size_along}
+use Rattle.amr_ghost.specs.GhostCells.{AreCopied, IsGhostStrip, size_along}
 use Rattle.amr_ghost.proofs.Steps.{frame_grown}
 use Rattle.amr_ghost.proofs.Homes.{bounds, held_ahead, home_step, step_step}
 

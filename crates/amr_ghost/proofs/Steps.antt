@@ -9,7 +9,7 @@ use Rattle.amr_box.proofs.CellEquality.{same_cells}
 use Rattle.amr_patch.specs.declared.patches.Patch.{Patch}
 use Rattle.amr_patch.specs.Places.{grown, in_frame}
 use Rattle.amr_ghost.specs.Frames.{is_beside, is_corner}
-use Rattle.amr_ghost.specs.Filling.{KeepsGhosts}
+use Rattle.amr_ghost.specs.GhostCells.{KeepsGhosts}
 
 not_both : (a b : Bool) → IsTrue (a && not b) → IsTrue b → ⊥
 not_both true true h k = cc

@@ -4,7 +4,7 @@ use Rattle.std.specs.List.{All, AllZip}
 use Rattle.std.proofs.lemmas.List.{get_or_default}
 use Rattle.amr_box.specs.declared.Cell.{Cell}
 use Rattle.amr_patch.specs.declared.patches.Patch.{Patch}
-use Rattle.amr_ghost.specs.Filling.{KeepsCells, KeepsGhosts}
+use Rattle.amr_ghost.specs.GhostCells.{KeepsCells, KeepsGhosts}
 use Rattle.amr_ghost.specs.Messages.{AreMassesFor, HasCopy, HasUnpacked, IsMessageFor, IsMessageTo, IsReceived}
 use Rattle.amr_ghost.specs.declared.parts.FrameCopy.{FrameCopy}
 use Rattle.amr_ghost.specs.declared.messages.Message.{Message}

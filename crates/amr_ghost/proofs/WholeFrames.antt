@@ -10,7 +10,7 @@ use Rattle.amr_def.specs.Value.{value_at}
 use Rattle.amr_patch.specs.declared.patches.Patch.{Patch}
 use Rattle.amr_patch.specs.Patches.{ArePatchesApart, masses_in}
 use Rattle.amr_ghost.specs.Fills.{FillsFrames}
-use Rattle.amr_ghost.specs.Filling.{KeepsCells}
+use Rattle.amr_ghost.specs.GhostCells.{KeepsCells}
 use Rattle.amr_ghost.specs.Frames.{AreInDomain, is_of_level}
 use Rattle.amr_ghost.specs.Messages.{AreMessagesTo, ArePacked, HasFilled, IsFrameCopy, IsMessageTo, IsReceived, mass_count}
 use Rattle.amr_ghost.specs.Outer.{AreOuterFor, HasNoMass, HasOuterPlaces, IsSpanBeside}

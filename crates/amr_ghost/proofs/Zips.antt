@@ -10,7 +10,7 @@ use Rattle.amr_patch.specs.declared.patches.Patch.{Patch}
 use Rattle.amr_patch.specs.Places.{in_frame}
 use Rattle.amr_patch.specs.Patches.{box, mass_in}
 use Rattle.amr_ghost.specs.Frames.{is_corner}
-use Rattle.amr_ghost.specs.Filling.{KeepsCells, KeepsGhosts}
+use Rattle.amr_ghost.specs.GhostCells.{KeepsCells, KeepsGhosts}
 
 pub zip_refl : (R : Patch → Patch → Type 0) → ((q : Patch) → R q q) → (ps : List Patch) → AllZip R ps ps
 zip_refl R same [] = tt

@@ -5,7 +5,7 @@ use Rattle.amr_def.specs.declared.problem.Problem.{Problem}
 use Rattle.amr_def.specs.State.{Masses}
 use Rattle.amr_patch.specs.declared.patches.Patch.{Patch}
 use Rattle.amr_patch.specs.Patches.{masses_in}
-use Rattle.amr_ghost.specs.Filling.{HasFrame}
+use Rattle.amr_ghost.specs.GhostCells.{HasFrame}
 use Rattle.amr_ghost.specs.Messages.{HasFilled, IsFrameCopy, IsMessageTo}
 use Rattle.amr_ghost.specs.Outer.{AreOuterBeside}
 use Rattle.amr_ghost.specs.declared.fills.FrameSources.{FrameSources}

@@ -1,8 +1,8 @@
-pub mod Strips
-pub mod Frames
-pub mod Filling
-pub mod Plans
-pub mod Parts
-pub mod Outer
-pub mod Messages
 pub mod Fills
+pub mod Frames
+pub mod GhostCells
+pub mod Messages
+pub mod Outer
+pub mod Parts
+pub mod Plans
+pub mod Strips

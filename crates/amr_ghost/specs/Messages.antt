@@ -10,7 +10,7 @@ use Rattle.amr_patch.specs.Places.{in_frame}
 use Rattle.amr_patch.specs.Patches.{box, mass_in}
 use Rattle.amr_ghost.specs.Strips.{HasRoom, step}
 use Rattle.amr_ghost.specs.Frames.{is_beside}
-use Rattle.amr_ghost.specs.Filling.{AreCopied, AreGiven, HasGhosts, KeepsCells, KeepsGhosts}
+use Rattle.amr_ghost.specs.GhostCells.{AreCopied, AreGiven, HasGhosts, KeepsCells, KeepsGhosts}
 use Rattle.amr_ghost.specs.Parts.{IsRun}
 use Rattle.amr_ghost.specs.Outer.{AreOuterFor, HasOuter}
 use Rattle.amr_ghost.specs.declared.outer.OuterGhosts.{OuterGhosts}

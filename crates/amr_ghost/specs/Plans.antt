@@ -12,7 +12,7 @@ use Rattle.amr_patch.specs.declared.patches.Patch.{Patch}
 use Rattle.amr_patch.specs.Patches.{box, in_patches}
 use Rattle.amr_ghost.specs.Strips.{HasRoom, step}
 use Rattle.amr_ghost.specs.Frames.{is_beside}
-use Rattle.amr_ghost.specs.Filling.{IsGhostStrip}
+use Rattle.amr_ghost.specs.GhostCells.{IsGhostStrip}
 use Rattle.amr_ghost.specs.declared.sides.Strip.{Strip}
 use Rattle.amr_ghost.specs.declared.sources.Source.{Source}
 use Rattle.amr_ghost.specs.declared.sources.Source.TheVariants.{Beside, Coarser, Outside}

@@ -8,7 +8,7 @@ ghost use Rattle.amr_patch.specs.declared.patches.Patch.{Patch};
 ghost use Rattle.amr_patch.specs.Patches.{in_patches};
 ghost use Rattle.amr_patch.specs.Gaps.{HasStarts};
 ghost use Rattle.amr_ghost.specs.Strips.{step};
-ghost use Rattle.amr_ghost.specs.Filling.{AreOrdered};
+ghost use Rattle.amr_ghost.specs.GhostCells.{AreOrdered};
 
 use crate::places::cells_up_to;
 use amr_box::{Axis, Cell, parent};

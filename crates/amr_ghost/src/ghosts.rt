@@ -9,7 +9,7 @@ ghost use Rattle.amr_patch.specs.Places.{in_frame};
 ghost use Rattle.amr_patch.specs.Patches.{box, mass_in};
 ghost use Rattle.amr_ghost.specs.Strips.{HasRoom, step};
 ghost use Rattle.amr_ghost.specs.Frames.{is_beside};
-ghost use Rattle.amr_ghost.specs.Filling.{AreCopied, AreGhostsSet, AreGiven, HasGhosts, KeepsCells, KeepsGhosts};
+ghost use Rattle.amr_ghost.specs.GhostCells.{AreCopied, AreGhostsSet, AreGiven, HasGhosts, KeepsCells, KeepsGhosts};
 
 use crate::entries::{
     copy_entries, copy_within_list, entries_of, fill_entries, give_entries, take_entries,

@@ -11,7 +11,7 @@ ghost use Rattle.amr_patch.specs.Patches.{box, mass_in};
 ghost use Rattle.amr_patch.specs.Levels.{level_of};
 ghost use Rattle.amr_ghost.specs.Strips.{HasRoom, step};
 ghost use Rattle.amr_ghost.specs.Frames.{is_of_level, old_masses};
-ghost use Rattle.amr_ghost.specs.Filling.{AreGiven};
+ghost use Rattle.amr_ghost.specs.GhostCells.{AreGiven};
 ghost use Rattle.amr_ghost.specs.Outer.{AreOuterFor, AreOuterValuesFor, HasNoMass, HasOuterGiven};
 ghost use Rattle.amr_ghost.specs.Outer.{HasOuterPlaces, IsOuterSpan, IsSpanBeside, lent, value_count};
 

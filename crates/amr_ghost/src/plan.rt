@@ -10,7 +10,7 @@ ghost use Rattle.amr_patch.specs.Patches.{ArePatchesApart, box};
 ghost use Rattle.amr_patch.specs.Gaps.{HasStarts};
 ghost use Rattle.amr_ghost.specs.Strips.{HasRoom};
 ghost use Rattle.amr_ghost.specs.Frames.{AreInDomain};
-ghost use Rattle.amr_ghost.specs.Filling.{IsGhostStrip, IsLevelInOrder, side_axis, side_count, side_from};
+ghost use Rattle.amr_ghost.specs.GhostCells.{IsGhostStrip, IsLevelInOrder, side_axis, side_count, side_from};
 ghost use Rattle.amr_ghost.specs.Plans.{HaveFrame, HaveStrip, IsSpan, KeepSpans, PlansFrames, PlansRun};
 
 use crate::lookup::{NearSides, Target, near_first};

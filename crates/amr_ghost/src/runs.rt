@@ -8,7 +8,7 @@ ghost use Rattle.amr_patch.specs.Orders.{IsOrderOf};
 ghost use Rattle.amr_patch.specs.Patches.{ArePatchesApart};
 ghost use Rattle.amr_patch.specs.Gaps.{HasStarts};
 ghost use Rattle.amr_ghost.specs.Frames.{AreInDomain};
-ghost use Rattle.amr_ghost.specs.Filling.{IsLevelInOrder};
+ghost use Rattle.amr_ghost.specs.GhostCells.{IsLevelInOrder};
 ghost use Rattle.amr_ghost.specs.Plans.{ArePlannedRuns, PlansFrames, PlansRun};
 
 use crate::lookup::Target;

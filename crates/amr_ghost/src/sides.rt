@@ -3,7 +3,7 @@
 ghost use Rattle.std.specs.Prelude.{◌≡◌};
 ghost use Rattle.amr_box.specs.Cells.{IsNear};
 ghost use Rattle.amr_ghost.specs.Strips.{HasRoom};
-ghost use Rattle.amr_ghost.specs.Filling.{side_axis, side_count, side_from};
+ghost use Rattle.amr_ghost.specs.GhostCells.{side_axis, side_count, side_from};
 
 use amr_box::{Axis, Bx, Cell};
 

@@ -7,7 +7,7 @@ ghost use Rattle.amr_def.specs.Domain.{domain};
 ghost use Rattle.amr_patch.specs.declared.patches.Patch.{Patch};
 ghost use Rattle.amr_patch.specs.Patches.{box};
 ghost use Rattle.amr_ghost.specs.Strips.{HasRoom};
-ghost use Rattle.amr_ghost.specs.Filling.{IsGhostStrip, IsLevelInOrder};
+ghost use Rattle.amr_ghost.specs.GhostCells.{IsGhostStrip, IsLevelInOrder};
 ghost use Rattle.amr_ghost.specs.Plans.{IsSpan};
 
 use crate::gap_cells::gap_ahead;

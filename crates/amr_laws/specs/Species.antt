@@ -7,7 +7,8 @@ use Rattle.amr_def.specs.State.{State, level_at, is_covered, mass_of}
 use Rattle.amr_def.specs.Regrid.{regrid, regrid_by}
 use Rattle.amr_def.specs.Run.{regrid_is_due, stepped, times, start, finish, run}
 use Rattle.amr_def.specs.Facts.{IsSound}
-use Rattle.amr_def.specs.Species.{AreAlike, IsFlock, of_species, boxes_in, each_from, first_state, step_of, is_tagged_in_some, regrid_all, next_all, finish_all, start_all, run_all}
+use Rattle.amr_def.specs.Species.{AreAlike, IsFlock, of_species, boxes_in, each_from, first_state, step_of, is_tagged_in_some}
+use Rattle.amr_def.specs.Species.{regrid_all, next_all, finish_all, start_all, run_all}
 use Rattle.amr_laws.specs.GridSize.{AreLimits, with_grid_size}
 
 -- ---- the problem of a species alone
@@ -35,7 +36,8 @@ RegridByKeepsSound = (p : Problem) (tagged : ℕ → Cell → Bool) (s : State) 
 -- a cell that is of a level before and after keeps its mass
 abbrev pub RegridByKeepsMasses : Type 0
 RegridByKeepsMasses =
-    (p : Problem) (tagged : ℕ → Cell → Bool) (s : State) (l : ℕ) (c : Cell) → IsSome ((level_at s l).masses c) → IsSome ((level_at (regrid_by p tagged s) l).masses c)
+    (p : Problem) (tagged : ℕ → Cell → Bool) (s : State) (l : ℕ) (c : Cell) → IsSome ((level_at s l).masses c)
+    → IsSome ((level_at (regrid_by p tagged s) l).masses c)
     → mass_of (level_at (regrid_by p tagged s) l).masses c ≡ mass_of (level_at s l).masses c
 
 -- states on the same boxes get the same new ones

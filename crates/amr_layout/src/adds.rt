@@ -9,7 +9,8 @@ ghost use Rattle.amr_def.specs.State.{is_covered};
 ghost use Rattle.amr_faces.specs.Faces.{IsInDomain};
 ghost use Rattle.amr_patch.specs.Gaps.{IsGap};
 ghost use Rattle.amr_layout.specs.Arounds.{CanSearch, around_of};
-ghost use Rattle.amr_layout.specs.Surroundings.{IsInRowOrColumn, IsNearFace, IsReachable, LiesBesideLevel, edge_count, edge_face, finer_masses, is_coarse_fine};
+ghost use Rattle.amr_layout.specs.Surroundings.{IsInRowOrColumn, IsNearFace, IsReachable, LiesBesideLevel};
+ghost use Rattle.amr_layout.specs.Surroundings.{edge_count, edge_face, finer_masses, is_coarse_fine};
 ghost use Rattle.amr_layout.specs.Adds.{AreInOrder, HasCellsBeyond, cell_beyond, flow_to_any, flows_of, goes_on, number_of, word_of};
 
 use crate::FlowTo;

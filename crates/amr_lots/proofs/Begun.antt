@@ -12,14 +12,14 @@ use Rattle.amr_patch.specs.declared.patches.Patch.{Patch}
 use Rattle.amr_patch.specs.Patches.{box, mass_in}
 use Rattle.amr_faces.specs.Faces.{IsInDomain, ShowsValues}
 use Rattle.amr_flux.specs.Rooms.{widest}
-use Rattle.amr_ghost.specs.Filling.{KeepsCells}
+use Rattle.amr_ghost.specs.GhostCells.{KeepsCells}
 use Rattle.amr_ghost.specs.declared.outer.OuterGhosts.{OuterGhosts}
 use Rattle.amr_phase.specs.Plans.{PlanOf}
 use Rattle.amr_layout.specs.declared.FlowTo.{FlowTo}
 use Rattle.amr_layout.specs.LevelFlowLists.{flows_at}
 use Rattle.amr_lots.specs.declared.lot.Work.{Work}
 use Rattle.amr_lots.specs.declared.lot.Workspace.{Workspace}
-use Rattle.amr_lots.specs.Filling.{AreFilled, HasFoundOuter}
+use Rattle.amr_lots.specs.FrameValues.{AreFilled, HasFoundOuter}
 use Rattle.amr_layout.specs.LevelFlowLists.{flow_lists}
 use Rattle.amr_lots.specs.Lots.{AreReady, MayStep}
 use Rattle.amr_lots.specs.Ready.{CanStep, MayStepBeside}

@@ -17,7 +17,7 @@ use Rattle.amr_faces.proofs.MaskedPlaces.{masked_face_of_box}
 use Rattle.amr_layout.specs.declared.PatchLayout.{PatchLayout}
 use Rattle.amr_register.proofs.EdgeLists.{first_of}
 use Rattle.amr_lots.specs.Ready.{MayUpdate}
-use Rattle.amr_lots.specs.Stepping.{AreSizesAt, AreSizesOf, IsReadable, ReadsSome, sizes_of}
+use Rattle.amr_lots.specs.LotSteps.{AreSizesAt, AreSizesOf, IsReadable, ReadsSome, sizes_of}
 use Rattle.amr_lots.specs.Works.{places_read}
 use Rattle.amr_lots.proofs.Flat.{flat_all, flat_at, flat_within}
 use Rattle.amr_lots.proofs.Showing.{size_at}

@@ -14,7 +14,7 @@ use Rattle.amr_faces.specs.Faces.{fluxes_by}
 use Rattle.amr_faces.proofs.MaskedPlaces.{by_beside, masked_face_of_box}
 use Rattle.amr_layout.specs.declared.PatchLayout.{PatchLayout}
 use Rattle.amr_lots.specs.Lots.{HasStepped, MayStep}
-use Rattle.amr_lots.specs.Stepping.{AreSizesAt}
+use Rattle.amr_lots.specs.LotSteps.{AreSizesAt}
 use Rattle.amr_faces.proofs.Small.{beside_small}
 
 module _ (p : Problem) (l : ℕ) (sizes : List ℕ) (t : PatchLayout) (q : Patch) (may : MayStep p l q) (are : AreSizesAt p l sizes t q) where

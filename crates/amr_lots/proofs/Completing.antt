@@ -16,14 +16,14 @@ use Rattle.amr_phase.specs.Plans.{PlanOf, planned_face}
 use Rattle.amr_board.specs.Ended.{EndedOf, face_of}
 use Rattle.amr_layout.specs.declared.PatchLayout.{PatchLayout}
 use Rattle.amr_register.proofs.EdgeLists.{first_of}
-use Rattle.amr_lots.specs.declared.lot.Basis.{Basis}
+use Rattle.amr_lots.specs.declared.lot.StepBasis.{StepBasis}
 use Rattle.amr_lots.specs.declared.lot.Duty.{Duty}
 use Rattle.amr_lots.specs.declared.lot.Duty.TheVariants.{Correct, Keep, Send, Step}
-use Rattle.amr_lots.specs.declared.lot.Stage.{Stage}
-use Rattle.amr_lots.specs.declared.lot.Stage.TheVariants.{Finished, Raw, Swept}
+use Rattle.amr_lots.specs.declared.lot.LotStage.{LotStage}
+use Rattle.amr_lots.specs.declared.lot.LotStage.TheVariants.{Finished, Raw, Swept}
 use Rattle.amr_lots.specs.declared.lot.Work.{Work}
 use Rattle.amr_lots.specs.Ready.{MayBegin, MayBeginIn, MayComplete, MayFinish, MayStepBeside, MayUpdate, ReadsBorder}
-use Rattle.amr_lots.specs.Serving.{MaySend}
+use Rattle.amr_lots.specs.Duties.{MaySend}
 use Rattle.amr_lots.specs.Works.{IsSwept, IsUnderWay, IsWaiting, StandsFor, StandsForIn, coarser_of, flux, layouts_of, masses_of, patches_of, places_read}
 use Rattle.amr_lots.proofs.Finishing.{swept_steps}
 use Rattle.amr_lots.proofs.Sending.{sends_on_boxes}
@@ -81,14 +81,14 @@ module _ (plan : PlanOf) (w v : Work) (may : MayStepBeside plan w) (way : IsUnde
   pub may_go_on : (q : Problem) → w.basis.value.problem.value ≡ q → v.level ≡ w.level → v.basis ≡ w.basis → (faces : ℕ → ℕ) → ((place : ℕ) → place < plan.places → faces place ≡ planned_face plan place) → MayFinish q faces plan.places v
   may_go_on q problem level basis faces agree = record {
     swept = swept;
-    problem = ap (λ (b : Snapshot Basis). b.value.problem.value) basis ∙ problem;
+    problem = ap (λ (b : Snapshot StepBasis). b.value.problem.value) basis ∙ problem;
     count = ap (λ (x : Vec PatchLayout). length x.items) way.layout.layouts ∙ may.serves.layouts ∙ sym way.count;
     sizes = omega (arith, may.serves.sizes, way.layout.sizes, ap (λ (x : Vec PatchLayout). length (places_read x.items)) way.layout.layouts);
     waits = λ k x t lt some.
         let below : k < length (patches_of w) = omega (arith, lt, way.count) in
         let same : length (get_or (layouts_of v) k t).border.items ≡ length (get_or (layouts_of w) k t).border.items = ap (λ (y : Vec PatchLayout). length (get_or y.items k t).border.items) way.layout.layouts in
         subst (λ (y : Vec PatchLayout). MayUpdate q v.level (widest v.lot.value.workspace.room) (masses_of v.basis.value) (coarser_of v.basis.value) faces plan.places (get_or y.items k t) (get_or (patches_of v) k x)) (sym way.layout.layouts)
-        (subst (λ (b : Snapshot Basis). MayUpdate q v.level (widest v.lot.value.workspace.room) (masses_of b.value) (coarser_of b.value) faces plan.places (get_or (layouts_of w) k t) (get_or (patches_of v) k x)) (sym basis)
+        (subst (λ (b : Snapshot StepBasis). MayUpdate q v.level (widest v.lot.value.workspace.room) (masses_of b.value) (coarser_of b.value) faces plan.places (get_or (layouts_of w) k t) (get_or (patches_of v) k x)) (sym basis)
         (subst (λ n. MayUpdate q n (widest v.lot.value.workspace.room) m old faces plan.places (get_or (layouts_of w) k t) (get_or (patches_of v) k x)) (sym level)
         (subst (λ (u : Problem). MayUpdate u l (widest v.lot.value.workspace.room) m old faces plan.places (get_or (layouts_of w) k t) (get_or (patches_of v) k x)) problem
         (may_update k x t below faces agree (omega (arith, some, same))))));
@@ -116,7 +116,7 @@ module _ (p : Problem) (plan : PlanOf) (w v : Work) (begin : MayBegin p plan w) 
       not_raw Correct h e = let wrong : Raw ≡ Finished = sym e ∙ h.0 in cc
       not_raw Keep h e = let wrong : Raw ≡ Finished = sym e ∙ h.0 in cc
 
-      by_stage : (s : Stage) → v.stage ≡ s → MayComplete p ended v
+      by_stage : (s : LotStage) → v.stage ≡ s → MayComplete p ended v
       by_stage Raw e = absurd (not_raw w.duty stands.does e)
       by_stage Swept e = inr (subst (λ n. MayFinish p (face_of ended) n v) (sym places) (may_finish (face_of ended) agree e))
       by_stage Finished e = inl e

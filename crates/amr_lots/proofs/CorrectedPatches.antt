@@ -8,7 +8,7 @@ use Rattle.amr_patch.specs.declared.patches.Patch.{Patch}
 use Rattle.amr_patch.specs.Patches.{KeepsFrameAndFluxes, box, mass_in}
 use Rattle.amr_patch.proofs.Keeping.{kept_twice}
 use Rattle.amr_transfer.specs.Given.{IsGiven}
-use Rattle.amr_lots.specs.Correcting.{IsCorrected}
+use Rattle.amr_lots.specs.Corrections.{IsCorrected}
 
 pub corrected : (fine : Masses) (entry : Cell → ℤ) (p q r : Patch) → KeepsFrameAndFluxes p q → ((c : Cell) → IsTrue (holds (box p) c) → mass_in q c ≡ at_least_zero (pos (mass_in p c) +ℤ entry c)) → IsGiven (is_covered fine) (children_mass fine) q r → IsCorrected fine entry p r
 corrected fine entry p q r kept refluxed given = record {

@@ -5,10 +5,10 @@ use Rattle.amr_board.specs.declared.view.View.{View}
 use Rattle.amr_board.specs.Views.{HasWorked, IsFresh, current}
 use Rattle.amr_lots.specs.declared.lot.Duty.{Duty}
 use Rattle.amr_lots.specs.declared.lot.Duty.TheVariants.{Correct, Keep, Send, Step}
-use Rattle.amr_lots.specs.declared.lot.Stage.TheVariants.{Finished}
+use Rattle.amr_lots.specs.declared.lot.LotStage.TheVariants.{Finished}
 use Rattle.amr_lots.specs.declared.lot.Work.{Work}
 use Rattle.amr_lots.specs.Ready.{MayBeginIn}
-use Rattle.amr_lots.specs.Serving.{IsServed, MayServe}
+use Rattle.amr_lots.specs.Duties.{IsServed, MayServe}
 use Rattle.amr_lots.specs.Works.{StandsForIn, adds_in, puts_in}
 
 pub serves : (d : Duty) (plan : PlanOf) (w : Work) → (d ≡ Step → ⊥) → MayBeginIn d plan w → MayServe d w.lot.value

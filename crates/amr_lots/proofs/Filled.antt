@@ -19,7 +19,7 @@ use Rattle.amr_patch.specs.declared.patches.Patch.{Patch}
 use Rattle.amr_patch.specs.Patches.{box}
 use Rattle.amr_faces.specs.Faces.{IsInDomain}
 use Rattle.amr_flux.specs.Rooms.{widest}
-use Rattle.amr_ghost.specs.Filling.{KeepsCells}
+use Rattle.amr_ghost.specs.GhostCells.{KeepsCells}
 use Rattle.amr_ghost.specs.Frames.{is_of_level, old_masses}
 use Rattle.amr_ghost.specs.Outer.{AreOuterFor, HasNoMass, HasOuterPlaces, lent}
 use Rattle.amr_ghost.specs.declared.outer.OuterGhosts.{OuterGhosts}
@@ -28,11 +28,11 @@ use Rattle.amr_ghost.proofs.Zips.{zip_boxes}
 use Rattle.amr_register.specs.EdgeCells.{AreEdgesIn, HaveNets, IsSmallNet, lists_of}
 use Rattle.amr_layout.specs.LevelFlowLists.{flows_at}
 use Rattle.amr_lots.specs.declared.lot.Workspace.{Workspace}
-use Rattle.amr_lots.specs.Filling.{AreFilled, FollowFrom, HasFoundOuter, HasValuesBy, with_outer}
+use Rattle.amr_lots.specs.FrameValues.{AreFilled, FollowFrom, HasFoundOuter, HasValuesBy, with_outer}
 use Rattle.amr_layout.specs.LevelFlowLists.{flow_lists}
 use Rattle.amr_lots.specs.Lots.{AreReady, LieOn, lot_total}
 use Rattle.amr_lots.specs.Ready.{CanStep, HasEdges, HasFlowsIn}
-use Rattle.amr_lots.specs.Stepping.{HasBegun, HaveEdgeNets}
+use Rattle.amr_lots.specs.LotSteps.{HasBegun, HaveEdgeNets}
 
 -- ---- outer values
 

@@ -17,16 +17,16 @@ use Rattle.amr_register.specs.declared.edges.EdgeCell.{EdgeCell}
 use Rattle.amr_register.specs.CoarseFlows.{edge_flows}
 use Rattle.amr_register.specs.EdgeCells.{IsSmallNet, SameEdges, lists_of}
 use Rattle.amr_register.proofs.EdgeLists.{first_of, zip_from}
-use Rattle.amr_lots.specs.declared.lot.Basis.{Basis}
+use Rattle.amr_lots.specs.declared.lot.StepBasis.{StepBasis}
 use Rattle.amr_lots.specs.declared.lot.Duty.{Duty}
 use Rattle.amr_lots.specs.declared.lot.Duty.TheVariants.{Correct, Keep, Send, Step}
 use Rattle.amr_lots.specs.declared.lot.Lot.{Lot}
-use Rattle.amr_lots.specs.declared.lot.Stage.TheVariants.{Finished, Raw, Swept}
+use Rattle.amr_lots.specs.declared.lot.LotStage.TheVariants.{Finished, Raw, Swept}
 use Rattle.amr_lots.specs.declared.lot.Work.{Work}
-use Rattle.amr_lots.specs.Filling.{HasValuesBy}
+use Rattle.amr_lots.specs.FrameValues.{HasValuesBy}
 use Rattle.amr_lots.specs.Lots.{IsStepped}
 use Rattle.amr_lots.specs.Ready.{MayFinish}
-use Rattle.amr_lots.specs.Stepping.{HasFinishedLot}
+use Rattle.amr_lots.specs.LotSteps.{HasFinishedLot}
 use Rattle.amr_lots.specs.Works.{HasFoundNets, IsSwept, IsUnderWay, KeepsLayout, KeepsTask, StandsFor, StandsForIn, coarser_of, flux, layouts_of, masses_of, patches_of}
 use Rattle.amr_lots.proofs.Showing.{steps}
 
@@ -147,7 +147,7 @@ module _ (q : Problem) (faces : ℕ → ℕ) (places : ℕ) (v z : Work) (may : 
   pub finished_stands : z.stage ≡ Finished → HasFinishedLot q v.level v.lot.value z.lot.value → (w : Work) → StandsFor w v → StandsFor w z
   finished_stands finished h w stands =
       let way = swept_steps w.duty w v stands.does may.swept in
-      let problem : q ≡ w.basis.value.problem.value = sym may.problem ∙ ap (λ (b : Snapshot Basis). b.value.problem.value) stands.keeps.basis in
+      let problem : q ≡ w.basis.value.problem.value = sym may.problem ∙ ap (λ (b : Snapshot StepBasis). b.value.problem.value) stands.keeps.basis in
       let lots : HasFinishedLot w.basis.value.problem.value w.level v.lot.value z.lot.value =
       subst (λ n. HasFinishedLot w.basis.value.problem.value n v.lot.value z.lot.value) stands.keeps.level (subst (λ (u : Problem). HasFinishedLot u v.level v.lot.value z.lot.value) problem h) in
       record {

@@ -13,7 +13,7 @@ use Rattle.amr_register.specs.declared.edges.EdgeCell.{EdgeCell}
 use Rattle.amr_lots.specs.declared.lot.Lot.{Lot}
 use Rattle.amr_lots.specs.declared.lot.Workspace.{Workspace}
 use Rattle.amr_lots.specs.Ready.{CanStep}
-use Rattle.amr_lots.specs.Stepping.{AreSizesOf, CanStepWhere, HasRead, HasSteppedWhere, HasSweptAll, HasSweptLot, HaveStepped, IsReadable, KeepsButSizes}
+use Rattle.amr_lots.specs.LotSteps.{AreSizesOf, CanStepWhere, HasRead, HasSteppedWhere, HasSweptAll, HasSweptLot, HaveStepped, IsReadable, KeepsButSizes}
 use Rattle.amr_lots.specs.Works.{places_read}
 use Rattle.amr_lots.proofs.Filled.{given_items}
 

@@ -15,7 +15,7 @@ use Rattle.amr_board.specs.declared.view.View.{View}
 use Rattle.amr_board.specs.Views.{IsFresh, IsHolding, current}
 use Rattle.amr_layout.specs.declared.PatchLayout.{PatchLayout}
 use Rattle.amr_layout.specs.declared.PutAt.{PutAt}
-use Rattle.amr_lots.specs.Stepping.{ArePuts, PutsAreNext}
+use Rattle.amr_lots.specs.LotSteps.{ArePuts, PutsAreNext}
 use Rattle.amr_lots.specs.Works.{put_by, puts_listed}
 use Rattle.amr_lots.proofs.Flat.{flat_at, flat_more, flat_whole, flat_within}
 

@@ -6,13 +6,13 @@ use Rattle.amr_def.specs.declared.problem.Problem.{Problem}
 use Rattle.amr_flux.specs.Rooms.{widest}
 use Rattle.amr_board.specs.Ended.{EndedOf, face_of}
 use Rattle.amr_lots.specs.declared.lot.Lot.{Lot}
-use Rattle.amr_lots.specs.declared.lot.Stage.{Stage}
+use Rattle.amr_lots.specs.declared.lot.LotStage.{LotStage}
 use Rattle.amr_lots.specs.declared.lot.Work.{Work}
 use Rattle.amr_lots.specs.Ready.{MayComplete, MayFinish}
-use Rattle.amr_lots.specs.Serving.{MaySend}
-use Rattle.amr_lots.specs.Stepping.{CanRead, CanStepBorder, HasFinishedLot, HasRead, KeepsButSizes}
+use Rattle.amr_lots.specs.Duties.{MaySend}
+use Rattle.amr_lots.specs.LotSteps.{CanRead, CanStepBorder, HasFinishedLot, HasRead, KeepsButSizes}
 use Rattle.amr_lots.specs.Works.{IsUnderWay, StandsFor, coarser_of, layouts_of, masses_of, patches_of}
-use Rattle.amr_lots.specs.declared.lot.Stage.TheVariants.{Finished, Raw, Swept}
+use Rattle.amr_lots.specs.declared.lot.LotStage.TheVariants.{Finished, Raw, Swept}
 use Rattle.amr_lots.proofs.Borders.{all_readable, all_sizes}
 use Rattle.amr_lots.proofs.Finishing.{finished_stands, steps_stand, swept_steps}
 
@@ -104,7 +104,7 @@ pub not_finished : (p : Problem) (ended : EndedOf Work) (v : Work) → (v.stage 
 not_finished p ended v other may = elim may [ inl e ↦ absurd (other e) | inr h ↦ h ]
 
 -- what is neither raw nor finished is swept
-pub still_swept : (s : Stage) → (s ≡ Raw → ⊥) → (s ≡ Finished → ⊥) → s ≡ Swept
+pub still_swept : (s : LotStage) → (s ≡ Raw → ⊥) → (s ≡ Finished → ⊥) → s ≡ Swept
 still_swept Raw a b = absurd (a refl)
 still_swept Swept a b = refl
 still_swept Finished a b = absurd (b refl)

@@ -9,8 +9,8 @@ use Rattle.amr_ghost.proofs.Carrying.{taken_of_boxes}
 use Rattle.amr_ghost.proofs.Zips.{boxes_of_zip}
 use Rattle.amr_register.specs.Fields.{entry_in}
 use Rattle.amr_lots.specs.declared.lot.Lot.{Lot}
-use Rattle.amr_lots.specs.Correcting.{HasCorrected, IsCorrected, MayCorrect, finer_in, register_in}
-use Rattle.amr_lots.specs.Serving.{HasMadeCorrection, HasSent, MaySend}
+use Rattle.amr_lots.specs.Corrections.{HasCorrected, IsCorrected, MayCorrect, finer_in, register_in}
+use Rattle.amr_lots.specs.Duties.{HasMadeCorrection, HasSent, MaySend}
 
 -- messages from patches are also messages from others with their boxes
 from_boxes : (rs fs : List Patch) → map box rs ≡ map box fs → (x : Message) → IsMessageFrom rs x → IsMessageFrom fs x

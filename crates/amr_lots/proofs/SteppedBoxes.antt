@@ -6,8 +6,8 @@ use Rattle.amr_patch.specs.Patches.{box}
 use Rattle.amr_layout.specs.declared.PatchLayout.{PatchLayout}
 use Rattle.amr_register.proofs.EdgeLists.{first_of}
 use Rattle.amr_lots.specs.declared.lot.Lot.{Lot}
-use Rattle.amr_lots.specs.Serving.{MaySend}
-use Rattle.amr_lots.specs.Stepping.{HasSteppedWhere, ReadsNone, ReadsSome}
+use Rattle.amr_lots.specs.Duties.{MaySend}
+use Rattle.amr_lots.specs.LotSteps.{HasSteppedWhere, ReadsNone, ReadsSome}
 use Rattle.amr_lots.proofs.Sending.{sends_on_boxes}
 
 pub boxes_same : (qs rs : List Patch) → length rs ≡ length qs → ((k : ℕ) (d : Patch) → k < length qs → box (get_or rs k d) ≡ box (get_or qs k d)) → map box rs ≡ map box qs

@@ -19,7 +19,7 @@ use Rattle.amr_faces.specs.Faces.{IsInDomain, ShowsValues, in_reach}
 use Rattle.amr_flux.specs.Sides.{includes, side_of}
 use Rattle.amr_flux.specs.declared.fluxes.Sides.{Sides}
 use Rattle.amr_faces.proofs.EdgeFaces.{edge_is_face}
-use Rattle.amr_ghost.specs.Filling.{KeepsCells}
+use Rattle.amr_ghost.specs.GhostCells.{KeepsCells}
 use Rattle.amr_ghost.specs.Outer.{HasOuterPlaces}
 use Rattle.amr_ghost.proofs.Zips.{zip_boxes}
 use Rattle.amr_phase.specs.declared.plan.Post.{Post}
@@ -34,13 +34,13 @@ use Rattle.amr_register.proofs.EdgeNets.{nets_are}
 use Rattle.amr_lots.specs.declared.lot.Duty.{Duty}
 use Rattle.amr_lots.specs.declared.lot.Duty.TheVariants.{Step}
 use Rattle.amr_lots.specs.declared.lot.Lot.{Lot}
-use Rattle.amr_lots.specs.declared.lot.Stage.TheVariants.{Finished, Raw, Swept}
+use Rattle.amr_lots.specs.declared.lot.LotStage.TheVariants.{Finished, Raw, Swept}
 use Rattle.amr_lots.specs.declared.lot.Work.{Work}
 use Rattle.amr_lots.specs.declared.lot.Workspace.{Workspace}
-use Rattle.amr_lots.specs.Filling.{HasValuesBy}
+use Rattle.amr_lots.specs.FrameValues.{HasValuesBy}
 use Rattle.amr_lots.specs.Lots.{IsSweptOn, MayStep}
 use Rattle.amr_lots.specs.Ready.{MayStepBeside}
-use Rattle.amr_lots.specs.Stepping.{AreAdds, ArePosts, ArePuts, CanStepInner, HasSteppedWhere, HasSweptLot, HaveEdgeNets, ReadsNone, ReadsSome}
+use Rattle.amr_lots.specs.LotSteps.{AreAdds, ArePosts, ArePuts, CanStepInner, HasSteppedWhere, HasSweptLot, HaveEdgeNets, ReadsNone, ReadsSome}
 use Rattle.amr_lots.specs.Works.{HasFoundNets, IsSwept, IsUnderWay, IsWaiting, KeepsLayout, adds_by, adds_in, adds_of_work, coarser_of, flows_in, flows_to, layouts_of, masses_of, patches_of, puts_by, puts_in, puts_of_work, size}
 use Rattle.amr_lots.proofs.Begun.{fs_count, keeps, lies, may_here, shows}
 use Rattle.amr_lots.proofs.InTurn.{no_sides}

@@ -7,10 +7,10 @@ use Rattle.amr_phase.specs.Plans.{PlanOf}
 use Rattle.amr_lots.specs.declared.lot.Duty.{Duty}
 use Rattle.amr_lots.specs.declared.lot.Duty.TheVariants.{Step}
 use Rattle.amr_lots.specs.declared.lot.Lot.{Lot}
-use Rattle.amr_lots.specs.declared.lot.Stage.TheVariants.{Swept}
+use Rattle.amr_lots.specs.declared.lot.LotStage.TheVariants.{Swept}
 use Rattle.amr_lots.specs.declared.lot.Work.{Work}
 use Rattle.amr_lots.specs.Ready.{CanStep, MayBegin, MayBeginIn, MayStepBeside}
-use Rattle.amr_lots.specs.Stepping.{ArePosts, CanStepInner, HasSteppedWhere, HasSweptLot, ReadsNone, ReadsSome}
+use Rattle.amr_lots.specs.LotSteps.{ArePosts, CanStepInner, HasSteppedWhere, HasSweptLot, ReadsNone, ReadsSome}
 use Rattle.amr_lots.specs.Works.{StandsFor, StandsForIn, adds_of_work, patches_of, puts_of_work}
 use Rattle.amr_lots.proofs.Begun.{can_step}
 use Rattle.amr_lots.proofs.Swept.{can_inner, posts, under_way}

@@ -5,7 +5,7 @@ use Rattle.amr_def.specs.declared.problem.Problem.{Problem}
 use Rattle.amr_patch.specs.declared.patches.Patch.{Patch}
 use Rattle.amr_layout.specs.declared.PatchLayout.{PatchLayout}
 use Rattle.amr_lots.specs.Lots.{HasStepped}
-use Rattle.amr_lots.specs.Stepping.{AreSizesAt, AreSizesOf, CanStepWhere, HaveStepped, MayStepIn, ReadsSome, sizes_of}
+use Rattle.amr_lots.specs.LotSteps.{AreSizesAt, AreSizesOf, CanStepWhere, HaveStepped, MayStepIn, ReadsSome, sizes_of}
 use Rattle.amr_lots.specs.Works.{places_read}
 use Rattle.amr_lots.proofs.InPlaces.{AreChangedTo, each_changed, one_more_changed}
 

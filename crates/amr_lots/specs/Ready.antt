@@ -29,12 +29,12 @@ use Rattle.amr_register.specs.declared.edges.EdgeCell.{EdgeCell}
 use Rattle.amr_register.specs.EdgeCells.{AreEdgesIn, lists_of}
 use Rattle.amr_lots.specs.declared.lot.Duty.{Duty}
 use Rattle.amr_lots.specs.declared.lot.Duty.TheVariants.{Correct, Keep, Send, Step}
-use Rattle.amr_lots.specs.declared.lot.Stage.TheVariants.{Finished, Raw, Swept}
+use Rattle.amr_lots.specs.declared.lot.LotStage.TheVariants.{Finished, Raw, Swept}
 use Rattle.amr_lots.specs.declared.lot.Work.{Work}
 use Rattle.amr_lots.specs.declared.lot.Workspace.{Workspace}
-use Rattle.amr_lots.specs.Filling.{AreFilled, CanFill, HasFoundOuter, HasValuesOrLevel}
+use Rattle.amr_lots.specs.FrameValues.{AreFilled, CanFill, HasFoundOuter, HasValuesOrLevel}
 use Rattle.amr_lots.specs.Lots.{AreEdgeFlows, AreReady, LevelStepFits, LieOn, MayStep}
-use Rattle.amr_lots.specs.Serving.{MaySend, MayServe}
+use Rattle.amr_lots.specs.Duties.{MaySend, MayServe}
 use Rattle.amr_lots.specs.Works.{coarser_of, flows_in, flows_to, flux, layouts_of, masses_of, patches_of, places_read, size}
 
 -- ---- patches and a workspace

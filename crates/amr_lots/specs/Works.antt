@@ -30,15 +30,15 @@ use Rattle.amr_layout.specs.LevelFlowLists.{flow_lists}
 use Rattle.amr_register.specs.declared.edges.EdgeCell.{EdgeCell}
 use Rattle.amr_register.specs.CoarseFlows.{edge_flows}
 use Rattle.amr_register.specs.EdgeCells.{AreEdges, IsSmallNet, SameEdges, lists_of}
-use Rattle.amr_lots.specs.declared.lot.Basis.{Basis}
+use Rattle.amr_lots.specs.declared.lot.StepBasis.{StepBasis}
 use Rattle.amr_lots.specs.declared.lot.Duty.{Duty}
 use Rattle.amr_lots.specs.declared.lot.Duty.TheVariants.{Correct, Keep, Send, Step}
-use Rattle.amr_lots.specs.declared.lot.Stage.TheVariants.{Finished, Raw, Swept}
+use Rattle.amr_lots.specs.declared.lot.LotStage.TheVariants.{Finished, Raw, Swept}
 use Rattle.amr_lots.specs.declared.lot.Work.{Work}
 use Rattle.amr_lots.specs.declared.lot.Workspace.{Workspace}
-use Rattle.amr_lots.specs.Filling.{HasValuesBy}
+use Rattle.amr_lots.specs.FrameValues.{HasValuesBy}
 use Rattle.amr_lots.specs.Lots.{IsStepped}
-use Rattle.amr_lots.specs.Serving.{IsServed}
+use Rattle.amr_lots.specs.Duties.{IsServed}
 
 -- ---- what the phase begins with
 
@@ -47,14 +47,14 @@ level_in None = None
 level_in (Some k) = Some k.value
 
 -- the masses of the level, and those of the next coarser level before its own step
-abbrev pub masses_of : Basis → Masses
+abbrev pub masses_of : StepBasis → Masses
 masses_of b = masses_in b.patches.value.items
 
-abbrev pub coarser_of : Basis → Masses
+abbrev pub coarser_of : StepBasis → Masses
 coarser_of b = old_masses (level_in b.coarser)
 
 -- what flows through each face of level l in the step
-abbrev pub fluxes_of : Basis → ℕ → Fluxes
+abbrev pub fluxes_of : StepBasis → ℕ → Fluxes
 fluxes_of b l = flux_at b.problem.value l (masses_of b) (coarser_of b)
 
 -- the same of a piece

@@ -6,7 +6,7 @@ ghost use Rattle.amr_flux.specs.Rooms.{widest};
 ghost use Rattle.amr_layout.specs.LevelFlowLists.{flow_lists};
 ghost use Rattle.amr_lots.specs.Lots.{AreReady, HasStepped, lot_total};
 ghost use Rattle.amr_lots.specs.Ready.{CanStep, HasFlowsIn};
-ghost use Rattle.amr_lots.specs.Stepping.{HasSteppedAlone};
+ghost use Rattle.amr_lots.specs.LotSteps.{HasSteppedAlone};
 
 use crate::frames::begin;
 use crate::lot::Workspace;

@@ -5,18 +5,18 @@ ghost use Rattle.std.specs.List.{All};
 ghost use Rattle.amr_flux.specs.Rooms.{widest};
 ghost use Rattle.amr_phase.specs.Plans.{planned_face};
 ghost use Rattle.amr_board.specs.BoardOf.{IsSeatOf, view};
-ghost use Rattle.amr_lots.specs.declared.lot.Stage.TheVariants.{Raw, Swept};
+ghost use Rattle.amr_lots.specs.declared.lot.LotStage.TheVariants.{Raw, Swept};
 ghost use Rattle.amr_lots.specs.declared.lot.Work.{Work as some_work};
 ghost use Rattle.amr_lots.specs.Lots.{HasStepped};
 ghost use Rattle.amr_lots.specs.Looks.{HasLookedOnly, HasLookedInVain};
 ghost use Rattle.amr_lots.specs.Ready.{MayFinish};
-ghost use Rattle.amr_lots.specs.Serving.{MaySend};
-ghost use Rattle.amr_lots.specs.Stepping.{AreSizesAt, AreSizesOf, CanRead, CanStepBorder, CanStepWhere, HasFinishedLot, HasRead};
-ghost use Rattle.amr_lots.specs.Stepping.{HasSteppedWhere, HaveStepped, IsReadable, KeepsButSizes, MayStepIn, ReadsNone, ReadsSome};
+ghost use Rattle.amr_lots.specs.Duties.{MaySend};
+ghost use Rattle.amr_lots.specs.LotSteps.{AreSizesAt, AreSizesOf, CanRead, CanStepBorder, CanStepWhere, HasFinishedLot, HasRead};
+ghost use Rattle.amr_lots.specs.LotSteps.{HasSteppedWhere, HaveStepped, IsReadable, KeepsButSizes, MayStepIn, ReadsNone, ReadsSome};
 ghost use Rattle.amr_lots.specs.Works.{StandsFor, layouts_of, places_read};
 
 use crate::duties::send;
-use crate::lot::{Lot, Stage, Work, Workspace};
+use crate::lot::{Lot, LotStage, Work, Workspace};
 use amr_board::{Board, Seat};
 use amr_def::Problem;
 use amr_flux::{Room, update_by};
@@ -178,6 +178,6 @@ pub fn finish(p: &Problem, board: &Board<Work>, seat: &mut Seat<Work>, mut work:
         return work;
     }
     finish_lot(p, work.level, &mut work.lot);
-    work.stage = Stage::Finished;
+    work.stage = LotStage::Finished;
     work
 }

@@ -3,8 +3,8 @@
 ghost use Rattle.std.specs.Prelude.{◌+◌, ◌<◌, ◌^◌};
 ghost use Rattle.amr_patch.specs.Patches.{box, masses_in};
 ghost use Rattle.amr_register.specs.Fields.{IsBoxAt, entry_in};
-ghost use Rattle.amr_lots.specs.Correcting.{AreCorrectedBy, CanCorrect, FitsEntries, HasCorrected, IsCorrected, IsReady, MayCorrect, finer_in, register_in};
-ghost use Rattle.amr_lots.specs.Serving.{HasKeptMasses, HasMadeCorrection, HasSent, IsServed, MayKeepMasses, MaySend, MayServe};
+ghost use Rattle.amr_lots.specs.Corrections.{AreCorrectedBy, CanCorrect, FitsEntries, HasCorrected, IsCorrected, IsReady, MayCorrect, finer_in, register_in};
+ghost use Rattle.amr_lots.specs.Duties.{HasKeptMasses, HasMadeCorrection, HasSent, IsServed, MayKeepMasses, MaySend, MayServe};
 
 use crate::lot::{Correction, Duty, Lot};
 use amr_alike::copy_patches;

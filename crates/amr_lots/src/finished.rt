@@ -3,14 +3,14 @@
 ghost use Rattle.std.specs.Prelude.{◌≡◌, ◌≤◌, ◌<◌, ◌+◌, ◌^◌, ℕ, length, slice_index};
 ghost use Rattle.std.specs.List.{All};
 ghost use Rattle.amr_board.specs.Ended.{face_of};
-ghost use Rattle.amr_lots.specs.declared.lot.Stage.TheVariants.{Finished};
+ghost use Rattle.amr_lots.specs.declared.lot.LotStage.TheVariants.{Finished};
 ghost use Rattle.amr_lots.specs.declared.lot.Work.{Work as some_work};
 ghost use Rattle.amr_lots.specs.Ready.{MayComplete};
-ghost use Rattle.amr_lots.specs.Stepping.{CanRead, HasRead, IsReadable, KeepsButSizes};
+ghost use Rattle.amr_lots.specs.LotSteps.{CanRead, HasRead, IsReadable, KeepsButSizes};
 ghost use Rattle.amr_lots.specs.Works.{StandsFor, places_read};
 
 use crate::border::finish_lot;
-use crate::lot::{Lot, Stage, Work, Workspace};
+use crate::lot::{Lot, LotStage, Work, Workspace};
 use amr_board::Ended;
 use amr_def::Problem;
 use amr_layout::PatchLayout;
@@ -66,5 +66,5 @@ pub fn complete(p: &Problem, ended: &Ended<Work>, work: &mut Work)
     }
     read_sizes(ended, &mut work.lot);
     finish_lot(p, work.level, &mut work.lot);
-    work.stage = Stage::Finished;
+    work.stage = LotStage::Finished;
 }

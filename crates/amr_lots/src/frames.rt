@@ -6,9 +6,9 @@ ghost use Rattle.amr_def.specs.Domain.{domain};
 ghost use Rattle.amr_patch.specs.Patches.{box};
 ghost use Rattle.amr_faces.specs.Faces.{IsInDomain};
 ghost use Rattle.amr_ghost.specs.Outer.{HasOuterPlaces, IsOuterSpan};
-ghost use Rattle.amr_lots.specs.Filling.{AreFilled, CanFill, HasFoundOuter, with_outer};
+ghost use Rattle.amr_lots.specs.FrameValues.{AreFilled, CanFill, HasFoundOuter, with_outer};
 ghost use Rattle.amr_lots.specs.Ready.{HasEdges};
-ghost use Rattle.amr_lots.specs.Stepping.{HaveEdgeNets};
+ghost use Rattle.amr_lots.specs.LotSteps.{HaveEdgeNets};
 
 use crate::lot::Workspace;
 use amr_def::Problem;

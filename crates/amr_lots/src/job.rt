@@ -5,16 +5,16 @@ ghost use Rattle.amr_phase.specs.Plans.{adds_of, planned_face, puts_of};
 ghost use Rattle.amr_board.specs.BoardOf.{IsSeatOf, view};
 ghost use Rattle.amr_board.specs.Views.{HasWorked, IsFresh, current};
 ghost use Rattle.amr_lots.specs.declared.lot.Duty.TheVariants.{Step};
-ghost use Rattle.amr_lots.specs.declared.lot.Stage.TheVariants.{Finished};
+ghost use Rattle.amr_lots.specs.declared.lot.LotStage.TheVariants.{Finished};
 ghost use Rattle.amr_lots.specs.declared.lot.Work.{Work as some_work};
 ghost use Rattle.amr_lots.specs.Looks.{HasLookedOnly};
 ghost use Rattle.amr_lots.specs.Ready.{MayBegin, MayFinish};
-ghost use Rattle.amr_lots.specs.Serving.{IsServed, MayServe};
+ghost use Rattle.amr_lots.specs.Duties.{IsServed, MayServe};
 ghost use Rattle.amr_lots.specs.Works.{KeepsTask, StandsFor, adds_of_work, puts_of_work};
 
 use crate::border::finish;
 use crate::duties::serve;
-use crate::lot::{Stage, Work};
+use crate::lot::{LotStage, Work};
 use crate::sweep::sweep_work;
 use amr_board::{Board, Seat};
 use amr_def::Problem;
@@ -73,7 +73,7 @@ fn serve_piece(mut piece: Work) -> Work
     ensures served { IsServed piece.duty piece.lot.value result.lot.value }
 {
     serve(piece.duty, &mut piece.lot);
-    piece.stage = Stage::Finished;
+    piece.stage = LotStage::Finished;
     piece
 }
 

@@ -25,5 +25,5 @@ pub use exchange::{exchange_before, exchange_edges, exchange_runs};
 pub use finished::complete;
 pub use frames::fill_lot;
 pub use job::LevelWork;
-pub use lot::{Basis, Correction, Duty, Lot, Stage, Work, Workspace};
+pub use lot::{Correction, Duty, Lot, LotStage, StepBasis, Work, Workspace};
 pub use patches::sides_of;

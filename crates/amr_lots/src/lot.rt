@@ -2,7 +2,7 @@
 
 ghost use Rattle.std.specs.Prelude.{◌≡◌, ◌≢◌, true, false};
 ghost use Rattle.amr_lots.specs.declared.lot.Duty.TheVariants.{Step};
-ghost use Rattle.amr_lots.specs.declared.lot.Stage.TheVariants.{Finished};
+ghost use Rattle.amr_lots.specs.declared.lot.LotStage.TheVariants.{Finished};
 
 use amr_board::Piece;
 use amr_def::Problem;
@@ -100,7 +100,7 @@ impl Duty {
 
 /// How far a lot is in its phase.
 #[derive(Clone, Copy, PartialEq, Eq, Debug)]
-pub enum Stage {
+pub enum LotStage {
     /// Nothing is done. In a step: each patch has its masses of before.
     Raw,
     /// In a step: frames are filled, and what the lot posts is posted. The patches that read no place have their new masses, the
@@ -110,15 +110,15 @@ pub enum Stage {
     Finished,
 }
 
-impl Stage {
+impl LotStage {
     /// Whether all is done.
     pub fn is_finished(self) -> bool
         ensures finished { result ≡ true → self ≡ Finished }
         ensures unfinished { result ≡ false → self ≢ Finished }
     {
         match self {
-            Stage::Finished => true,
-            Stage::Raw | Stage::Swept => false,
+            LotStage::Finished => true,
+            LotStage::Raw | LotStage::Swept => false,
         }
     }
 }
@@ -126,7 +126,7 @@ impl Stage {
 /// What a step is worked out from, for contracts alone: the problem, the patches of the level, and the next coarser level before its own
 /// step, where there is one.
 #[derive(Drop)]
-pub struct Basis {
+pub struct StepBasis {
     pub problem: Snapshot<Problem>,
     pub patches: Snapshot<Vec<Patch>>,
     pub coarser: Option<Snapshot<Level>>,
@@ -141,10 +141,10 @@ pub struct Work {
     /// The level, from 0 to 4.
     pub level: u32,
     pub duty: Duty,
-    pub stage: Stage,
+    pub stage: LotStage,
     pub lot: Box<Lot>,
     /// What the phase begins with, which no byte stands for.
-    pub basis: Snapshot<Basis>,
+    pub basis: Snapshot<StepBasis>,
 }
 
 impl Piece for Work {

@@ -13,14 +13,14 @@ ghost use Rattle.amr_board.specs.Views.{IsFresh, IsHolding, current};
 ghost use Rattle.amr_layout.specs.LevelFlowLists.{flow_lists};
 ghost use Rattle.amr_lots.specs.Lots.{AreReady, HasStepped, lot_total};
 ghost use Rattle.amr_lots.specs.Ready.{CanStep, HasFlowsIn, MayBegin};
-ghost use Rattle.amr_lots.specs.Stepping.{AreAdds, ArePosts, ArePuts, AreSweptOn, CanStepInner, CanStepWhere, HasSteppedWhere};
-ghost use Rattle.amr_lots.specs.Stepping.{HasSweptAll, HasSweptLot, HaveStepped, MayStepIn, PutsAreNext, ReadsNone, ReadsSome};
+ghost use Rattle.amr_lots.specs.LotSteps.{AreAdds, ArePosts, ArePuts, AreSweptOn, CanStepInner, CanStepWhere, HasSteppedWhere};
+ghost use Rattle.amr_lots.specs.LotSteps.{HasSweptAll, HasSweptLot, HaveStepped, MayStepIn, PutsAreNext, ReadsNone, ReadsSome};
 ghost use Rattle.amr_lots.specs.Works.{StandsFor, adds_of_work, puts_listed, puts_of_work};
-ghost use Rattle.amr_lots.specs.declared.lot.Stage.TheVariants.{Swept};
+ghost use Rattle.amr_lots.specs.declared.lot.LotStage.TheVariants.{Swept};
 ghost use Rattle.amr_lots.specs.declared.lot.Duty.TheVariants.{Step};
 
 use crate::frames::begin;
-use crate::lot::{Lot, Stage, Work, Workspace};
+use crate::lot::{Lot, LotStage, Work, Workspace};
 use crate::patches::sweep_patch;
 use amr_board::{Board, Seat};
 use amr_def::Problem;
@@ -199,5 +199,5 @@ pub(crate) fn sweep_work(p: &Problem, board: &Board<Work>, seat: &mut Seat<Work>
     sweep_lot(p, work.level, &mut work.lot);
     make_posts(board, seat, &work.lot);
     update_inner(p, work.level, &mut work.lot);
-    work.stage = Stage::Swept;
+    work.stage = LotStage::Swept;
 }

@@ -8,7 +8,7 @@ use Rattle.amr_mailbox.specs.declared.view.Turn.{Turn}
 use Rattle.amr_mailbox.specs.declared.view.Turn.TheVariants.{Free, Busy, Over}
 use Rattle.amr_mailbox.specs.declared.view.View.{View}
 use Rattle.amr_mailbox.specs.Views.{view_of, first_view, parting_view}
-use Rattle.amr_mailbox.specs.Rule.{Stage, unopened, opened, idle, posted, taken, answered, dismissed, left, state_of}
+use Rattle.amr_mailbox.specs.Rule.{MailboxStage, unopened, opened, idle, posted, taken, answered, dismissed, left, state_of}
 
 abbrev pub role_number : Role → ℕ
 role_number Unopened = 0
@@ -28,7 +28,7 @@ order_or d (Busy order) = order
 order_or d Over = d
 
 -- how far the asker is in each stage
-abbrev pub AsksIn : {O A : Type 0} → Stage O A → Turn O → Type 0
+abbrev pub AsksIn : {O A : Type 0} → MailboxStage O A → Turn O → Type 0
 AsksIn unopened t = ⊥
 AsksIn opened t = ⊥
 AsksIn idle t = Free ≡ t
@@ -39,7 +39,7 @@ AsksIn dismissed t = Over ≡ t
 AsksIn left t = Over ≡ t
 
 -- how far the worker is
-abbrev pub WorksIn : {O A : Type 0} → Stage O A → Turn O → Type 0
+abbrev pub WorksIn : {O A : Type 0} → MailboxStage O A → Turn O → Type 0
 WorksIn unopened t = ⊥
 WorksIn opened t = ⊥
 WorksIn idle t = Free ≡ t
@@ -69,7 +69,7 @@ module _ {O K : Type 0} (A : Type 0) (key : K) where
   first_of_one u v zero e = (refl, ap (λ (x : View O K). role_number x.role) (lookup.some-injective _ _ e))
   first_of_one u v (suc n) e = absurd (lookup.some-ne-none _ (sym e))
 
-  pub asker_in : (g : Stage O A) (id : ℕ) (t : Turn O) → get_elem? (state_of key g).views id ≡ lookup.some (view_of key Asks t) → (id ≡ 0) × AsksIn g t
+  pub asker_in : (g : MailboxStage O A) (id : ℕ) (t : Turn O) → get_elem? (state_of key g).views id ≡ lookup.some (view_of key Asks t) → (id ≡ 0) × AsksIn g t
   asker_in unopened id t e = absurd (let p = (first_of_one _ _ id e).1 in omega arith)
   asker_in opened id t e = absurd (let p = (first_of_one _ _ id e).1 in omega arith)
   asker_in idle id t e = asker_of_two Free Free id t e
@@ -79,7 +79,7 @@ module _ {O K : Type 0} (A : Type 0) (key : K) where
   asker_in dismissed id t e = asker_of_two Over Free id t e
   asker_in left id t e = asker_of_two Over Over id t e
 
-  pub worker_in : (g : Stage O A) (id : ℕ) (t : Turn O) → get_elem? (state_of key g).views id ≡ lookup.some (view_of key Works t) → (id ≡ 1) × WorksIn g t
+  pub worker_in : (g : MailboxStage O A) (id : ℕ) (t : Turn O) → get_elem? (state_of key g).views id ≡ lookup.some (view_of key Works t) → (id ≡ 1) × WorksIn g t
   worker_in unopened id t e = absurd (let p = (first_of_one _ _ id e).1 in omega arith)
   worker_in opened id t e = absurd (let p = (first_of_one _ _ id e).1 in omega arith)
   worker_in idle id t e = worker_of_two Free Free id t e
@@ -90,7 +90,7 @@ module _ {O K : Type 0} (A : Type 0) (key : K) where
   worker_in left id t e = worker_of_two Over Over id t e
 
   -- a view before there are two is of the one stage that has it
-  pub first_in : (g : Stage O A) (id : ℕ) → get_elem? (state_of key g).views id ≡ lookup.some (first_view key) → (id ≡ 0) × (g ≡ unopened)
+  pub first_in : (g : MailboxStage O A) (id : ℕ) → get_elem? (state_of key g).views id ≡ lookup.some (first_view key) → (id ≡ 0) × (g ≡ unopened)
   first_in unopened id e = ((first_of_one _ _ id e).0, refl)
   first_in opened id e = absurd (let p = (first_of_one _ _ id e).1 in omega arith)
   first_in idle id e = absurd (let p = late_of_two _ _ id _ e in omega arith)
@@ -100,7 +100,7 @@ module _ {O K : Type 0} (A : Type 0) (key : K) where
   first_in dismissed id e = absurd (let p = late_of_two _ _ id _ e in omega arith)
   first_in left id e = absurd (let p = late_of_two _ _ id _ e in omega arith)
 
-  pub parting_in : (g : Stage O A) (id : ℕ) → get_elem? (state_of key g).views id ≡ lookup.some (parting_view key) → (id ≡ 0) × (g ≡ opened)
+  pub parting_in : (g : MailboxStage O A) (id : ℕ) → get_elem? (state_of key g).views id ≡ lookup.some (parting_view key) → (id ≡ 0) × (g ≡ opened)
   parting_in unopened id e = absurd (let p = (first_of_one _ _ id e).1 in omega arith)
   parting_in opened id e = ((first_of_one _ _ id e).0, refl)
   parting_in idle id e = absurd (let p = late_of_two _ _ id _ e in omega arith)

@@ -1,7 +1,7 @@
 -- What the two ends know, and the slot that they hold.
 use Rattle.std.specs.Prelude.{ℕ, List, [], ◌∷◌}
-use Rattle.amr_mailbox.specs.declared.letter.Letter.{Letter}
-use Rattle.amr_mailbox.specs.declared.letter.Letter.TheVariants.{Empty}
+use Rattle.amr_mailbox.specs.declared.mail.Mail.{Mail}
+use Rattle.amr_mailbox.specs.declared.mail.Mail.TheVariants.{Empty}
 use Rattle.amr_mailbox.specs.declared.view.Role.{Role}
 use Rattle.amr_mailbox.specs.declared.view.Role.TheVariants.{Unopened, Parting, Asks, Works}
 use Rattle.amr_mailbox.specs.declared.view.Turn.{Turn}
@@ -26,18 +26,18 @@ module _ {O K : Type 0} where
   worker_view key = view_of key Works Free
 
 module _ {O A : Type 0} where
-  -- the slot, with this letter
-  abbrev pub holding : Letter O A → List (ℕ × Letter O A)
-  holding letter = (0, letter) ∷ []
+  -- the slot, with this mail
+  abbrev pub holding : Mail O A → List (ℕ × Mail O A)
+  holding mail = (0, mail) ∷ []
 
   -- the asker holds the slot, empty, but while an order is out
-  abbrev pub asker_slots : Turn O → List (ℕ × Letter O A)
+  abbrev pub asker_slots : Turn O → List (ℕ × Mail O A)
   asker_slots Free = holding Empty
   asker_slots (Busy order) = []
   asker_slots Over = holding Empty
 
   -- the worker holds it while it works on an order
-  abbrev pub worker_slots : Turn O → List (ℕ × Letter O A)
+  abbrev pub worker_slots : Turn O → List (ℕ × Mail O A)
   worker_slots Free = []
   worker_slots (Busy order) = holding Empty
   worker_slots Over = []

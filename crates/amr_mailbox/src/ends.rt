@@ -1,6 +1,6 @@
 //! The two ends of a mailbox.
 
-use crate::letter::Letter;
+use crate::mail::Mail;
 use crate::view::View;
 use atomic_table::Seat;
 use std::marker::Model;
@@ -8,7 +8,7 @@ use std::marker::Model;
 /// The end that posts orders and collects their answers. It takes no bytes.
 #[derive(Drop)]
 pub struct Asker<O, A, K> {
-    pub(crate) seat: Seat<Letter<O, A>, View<O, K>>,
+    pub(crate) seat: Seat<Mail<O, A>, View<O, K>>,
 }
 
 impl<O, A, K> Model for Asker<O, A, K> {
@@ -27,7 +27,7 @@ impl<O, A, K> Model for Asker<O, A, K> {
 /// The end that takes orders and answers them. It takes no bytes.
 #[derive(Drop)]
 pub struct Worker<O, A, K> {
-    pub(crate) seat: Seat<Letter<O, A>, View<O, K>>,
+    pub(crate) seat: Seat<Mail<O, A>, View<O, K>>,
 }
 
 impl<O, A, K> Model for Worker<O, A, K> {

@@ -4,7 +4,7 @@
 
 mod ends;
 mod errand;
-mod letter;
+mod mail;
 mod mailbox;
 mod patience;
 mod rule;
@@ -12,7 +12,7 @@ mod view;
 
 pub use ends::{Asker, Worker};
 pub use errand::Errand;
-pub use letter::Letter;
+pub use mail::Mail;
 pub use mailbox::Mailbox;
 pub use rule::MailboxRule;
 pub use view::{Role, Turn, View};

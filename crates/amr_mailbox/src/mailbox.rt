@@ -1,4 +1,4 @@
-//! The mailbox and its calls: word 0 says whose turn it is, slot 0 holds the letter while neither end has it.
+//! The mailbox and its calls: word 0 says whose turn it is, slot 0 holds the mail while neither end has it.
 ghost use Rattle.std.specs.Prelude.{◌≡◌, IfOk, IfSome, MatchOption};
 ghost use Rattle.amr_mailbox.specs.declared.view.Turn.TheVariants.{Free, Busy, Over};
 ghost use Rattle.amr_mailbox.specs.MailboxOf.{end_of, IsBusy};
@@ -6,7 +6,7 @@ ghost use Rattle.amr_mailbox.specs.Found.{IsFound};
 
 use crate::ends::{Asker, Worker};
 use crate::errand::Errand;
-use crate::letter::Letter;
+use crate::mail::Mail;
 use crate::patience::Patience;
 use crate::rule::{
     Answering, Collecting, Dismissing, Halves, Looking, MailboxRule, Opening, Posting, TakingBack,
@@ -43,7 +43,7 @@ enum Found<O> {
 /// an end makes nobody wrong: the other end then waits.
 #[derive(Drop)]
 pub struct Mailbox<O, A, K, E: Errand<O, A, K>> {
-    table: Table<Letter<O, A>, View<O, K>, K, MailboxRule<E>, Global>,
+    table: Table<Mail<O, A>, View<O, K>, K, MailboxRule<E>, Global>,
     attended: AtomicBool,
     asleep: AtomicBool,
 }
@@ -70,7 +70,7 @@ impl<O: Drop, A: Drop, K, E: Errand<O, A, K>> Mailbox<O, A, K, E> {
         ensures worker { IfOk result (λ r. r.2 ≡ end_of r.0 Free) }
     {
         let mut slots = Vec::with_capacity(alloc, 1)?;
-        slots.push_reserved(Letter::Empty);
+        slots.push_reserved(Mail::Empty);
         let (table, mut seat) = match Table::new(alloc, &[ASKERS_TURN], slots, key) {
             Ok(made) => made,
             Err(Refused { slots: _ }) => return Err(AllocError),
@@ -102,7 +102,7 @@ impl<O: Drop, A: Drop, K, E: Errand<O, A, K>> Mailbox<O, A, K, E> {
         ensures { asker.new ≡ end_of self.now (Busy order) }
     {
         let shared = &self.table.shared;
-        let Letter::Empty = shared.exchange(&mut asker.seat, 0, Letter::Order(order)) else {
+        let Mail::Empty = shared.exchange(&mut asker.seat, 0, Mail::Order(order)) else {
             unreachable!()
         };
         shared.store::<Posting>(&mut asker.seat, 0, POSTED);
@@ -123,7 +123,7 @@ impl<O: Drop, A: Drop, K, E: Errand<O, A, K>> Mailbox<O, A, K, E> {
         {
             return None;
         }
-        let Letter::Order(order) = shared.exchange(&mut asker.seat, 0, Letter::Empty) else {
+        let Mail::Order(order) = shared.exchange(&mut asker.seat, 0, Mail::Empty) else {
             unreachable!()
         };
         Some(order)
@@ -155,7 +155,7 @@ impl<O: Drop, A: Drop, K, E: Errand<O, A, K>> Mailbox<O, A, K, E> {
         if shared.load::<Collecting<E>>(&mut asker.seat, 0) != ASKERS_TURN {
             return None;
         }
-        let Letter::Answer(answer) = shared.exchange(&mut asker.seat, 0, Letter::Empty) else {
+        let Mail::Answer(answer) = shared.exchange(&mut asker.seat, 0, Mail::Empty) else {
             unreachable!()
         };
         Some(answer)
@@ -214,8 +214,7 @@ impl<O: Drop, A: Drop, K, E: Errand<O, A, K>> Mailbox<O, A, K, E> {
         }
         match shared.compare_exchange::<Looking<E>>(&mut worker.seat, 0, POSTED, TAKEN) {
             POSTED => {
-                let Letter::Order(order) = shared.exchange(&mut worker.seat, 0, Letter::Empty)
-                else {
+                let Mail::Order(order) = shared.exchange(&mut worker.seat, 0, Mail::Empty) else {
                     unreachable!()
                 };
                 Found::Order(order)
@@ -232,7 +231,7 @@ impl<O: Drop, A: Drop, K, E: Errand<O, A, K>> Mailbox<O, A, K, E> {
         ensures { worker.new ≡ end_of self.now Free }
     {
         let shared = &self.table.shared;
-        let Letter::Empty = shared.exchange(&mut worker.seat, 0, Letter::Answer(answer)) else {
+        let Mail::Empty = shared.exchange(&mut worker.seat, 0, Mail::Answer(answer)) else {
             unreachable!()
         };
         shared.store::<Answering>(&mut worker.seat, 0, ASKERS_TURN);

@@ -4,7 +4,7 @@ ghost use Rattle.amr_mailbox.specs.Rule.{Rule};
 ghost use Rattle.amr_mailbox.specs.Plays.{Opens, Posts, TakesBack, Dismisses, Collects, Looks, Answers};
 
 use crate::errand::Errand;
-use crate::letter::Letter;
+use crate::mail::Mail;
 use crate::view::View;
 use atomic_table::{Play, Split, TableRule};
 use std::marker::PhantomData;
@@ -14,7 +14,7 @@ pub struct MailboxRule<E> {
     errand: PhantomData<E>,
 }
 
-impl<O, A, K, E: Errand<O, A, K>> TableRule<Letter<O, A>, View<O, K>, K> for MailboxRule<E> {
+impl<O, A, K, E: Errand<O, A, K>> TableRule<Mail<O, A>, View<O, K>, K> for MailboxRule<E> {
     ghost holds = { λ key s. Rule E.may E.serves key s };
 
     ghost first = { λ key. first_view key };
@@ -22,7 +22,7 @@ impl<O, A, K, E: Errand<O, A, K>> TableRule<Letter<O, A>, View<O, K>, K> for Mai
 
 pub struct Opening;
 
-impl<O, A, K> Play<Letter<O, A>, View<O, K>> for Opening {
+impl<O, A, K> Play<Mail<O, A>, View<O, K>> for Opening {
     ghost then = { Opens };
 }
 
@@ -36,19 +36,19 @@ impl<O, K> Split<View<O, K>> for Halves {
 
 pub struct Posting;
 
-impl<O, A, K> Play<Letter<O, A>, View<O, K>> for Posting {
+impl<O, A, K> Play<Mail<O, A>, View<O, K>> for Posting {
     ghost then = { Posts };
 }
 
 pub struct TakingBack;
 
-impl<O, A, K> Play<Letter<O, A>, View<O, K>> for TakingBack {
+impl<O, A, K> Play<Mail<O, A>, View<O, K>> for TakingBack {
     ghost then = { TakesBack };
 }
 
 pub struct Dismissing;
 
-impl<O, A, K> Play<Letter<O, A>, View<O, K>> for Dismissing {
+impl<O, A, K> Play<Mail<O, A>, View<O, K>> for Dismissing {
     ghost then = { Dismisses };
 }
 
@@ -56,7 +56,7 @@ pub struct Collecting<E> {
     errand: PhantomData<E>,
 }
 
-impl<O, A, K, E: Errand<O, A, K>> Play<Letter<O, A>, View<O, K>> for Collecting<E> {
+impl<O, A, K, E: Errand<O, A, K>> Play<Mail<O, A>, View<O, K>> for Collecting<E> {
     ghost then = { Collects E.serves };
 }
 
@@ -64,12 +64,12 @@ pub struct Looking<E> {
     errand: PhantomData<E>,
 }
 
-impl<O, A, K, E: Errand<O, A, K>> Play<Letter<O, A>, View<O, K>> for Looking<E> {
+impl<O, A, K, E: Errand<O, A, K>> Play<Mail<O, A>, View<O, K>> for Looking<E> {
     ghost then = { Looks E.may };
 }
 
 pub struct Answering;
 
-impl<O, A, K> Play<Letter<O, A>, View<O, K>> for Answering {
+impl<O, A, K> Play<Mail<O, A>, View<O, K>> for Answering {
     ghost then = { Answers };
 }

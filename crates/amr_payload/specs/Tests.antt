@@ -244,7 +244,8 @@ row_place place k n = place + 24 * (n - k)
 unfoldable pub read_state : Basis → Problem → Left → Reading State
 read_state on p r =
     then_read (read_step p (length on.rows) r) (λ n a. then_read (read_ledger on.rows n a) (λ rows b. then_read (read_levels on.forms p n b) (λ levels c.
-    tested (is_in_balance p (record { step = n; rows = rows; levels = levels })) (row_place a.place (length on.rows) n) (record { step = n; rows = rows; levels = levels }) c)))
+    tested (is_in_balance p (record { step = n; rows = rows; levels = levels })) (row_place a.place (length on.rows) n)
+    (record { step = n; rows = rows; levels = levels }) c)))
 
 -- nothing is left
 abbrev pub nothing_follows : {A : Type 0} → Reading A → Result A ℕ

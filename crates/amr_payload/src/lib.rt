@@ -4,7 +4,8 @@
 //! body, and what it ensures is the law. It holds for every problem.
 #![tactic(auto)]
 
-ghost use Rattle.amr_payload.specs.Laws.{DeltaFitsSlot, DeltaReadExactlyWhereSound, PayloadFitsSlot, PayloadHasOneState, PayloadIsBytes, ReadExactlyWhereSound};
+ghost use Rattle.amr_payload.specs.Laws.{DeltaFitsSlot, DeltaReadExactlyWhereSound};
+ghost use Rattle.amr_payload.specs.Laws.{PayloadFitsSlot, PayloadHasOneState, PayloadIsBytes, ReadExactlyWhereSound};
 
 /// A payload is a list of bytes: each of its numbers is below 256.
 pub fn payload_is_bytes()

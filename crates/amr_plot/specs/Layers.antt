@@ -1,9 +1,10 @@
 -- The levels of all species at one number.
 use Rattle.std.specs.Prelude.{◌≡◌, ℕ, ◌<◌, false, List, length, map, slice_index_or, IsTrue}
-use Rattle.std.specs.List.{All}
+use Rattle.std.specs.List.{All, flat_map}
 use Rattle.amr_box.specs.declared.Cell.{Cell}
 use Rattle.amr_box.specs.Cells.{Extent, IsNear, holds, in_boxes}
 use Rattle.amr_def.specs.declared.problem.Problem.{Problem}
+use Rattle.amr_def.specs.Plot.{box_text, names_species}
 use Rattle.amr_def.specs.Domain.{domain, in_domain}
 use Rattle.amr_def.specs.Species.{AreAlike, first_state}
 use Rattle.amr_def.specs.State as defined
@@ -30,6 +31,10 @@ masses_in k = map (λ level. level.masses) (levels_in k)
 
 abbrev pub boxes_in : Layer → List Extent
 boxes_in k = (slice_index_or (levels_in k) 0 defined.no_level).boxes
+
+-- the texts of boxes, one after the other
+abbrev pub boxes_text : Layer → List Extent → List ℕ
+boxes_text k bs = flat_map (box_text (names_species k.problem.now) (masses_in k)) bs
 
 -- the box lies in the domain of the level, among its boxes
 pub record IsBoxOf (k : Layer) (b : Extent) : Type 0 where

@@ -1,11 +1,11 @@
 //! Boxes of a level, one after another, each its line and the rows of each species.
 
 ghost use Rattle.std.specs.Prelude.{◌<◌, ◌≤◌, ◌+◌, ◌==◌, [], cond, length};
-ghost use Rattle.std.specs.List.{All, flat_map};
+ghost use Rattle.std.specs.List.{All};
 ghost use Rattle.amr_box.specs.Cells.{height};
 ghost use Rattle.amr_def.specs.Plot.{box_text, names_species, species_line};
 ghost use Rattle.amr_plot.specs.BoxParts.{some_rows};
-ghost use Rattle.amr_plot.specs.Layers.{IsBoxOf, IsLayer, masses_in};
+ghost use Rattle.amr_plot.specs.Layers.{boxes_text, masses_in, IsBoxOf, IsLayer};
 ghost use Rattle.amr_plot.specs.Pens.{Puts};
 
 use crate::layer::Layer;
@@ -66,7 +66,7 @@ fn put_box<P: Pen>(layer: Layer<'_>, b: &Bx, pen: &mut P) -> Result<(), P::Fault
 pub(crate) fn put_boxes<P: Pen>(layer: Layer<'_>, boxes: &[Bx], pen: &mut P) -> Result<(), P::Fault>
     requires layer { IsLayer layer }
     requires of_layer { All (IsBoxOf layer) boxes.now }
-    ensures { Puts P.wrote P.failed pen.old pen.new (flat_map (box_text (names_species layer.entry.problem.now) (masses_in layer.entry)) boxes.now) result }
+    ensures { Puts P.wrote P.failed pen.old pen.new (boxes_text layer.entry boxes.now) result }
 {
     for b in boxes {
         put_box(layer, b, pen)?;

@@ -5,7 +5,7 @@ ghost use Rattle.std.specs.List.{All, flat_map};
 ghost use Rattle.amr_def.specs.Plot.{box_text, names_species, rows_text};
 ghost use Rattle.amr_def.specs.State.{no_masses};
 ghost use Rattle.amr_plot.specs.BoxParts.{IsPartOf, part_text};
-ghost use Rattle.amr_plot.specs.Layers.{IsBoxOf, IsLayer, masses_in};
+ghost use Rattle.amr_plot.specs.Layers.{boxes_text, masses_in, IsBoxOf, IsLayer};
 ghost use Rattle.amr_plot.specs.Pens.{Puts};
 
 use crate::boxes::put_some_rows;
@@ -70,7 +70,7 @@ fn append_parts(parts: &mut Vec<Part>, layer: Layer<'_>, b: &Bx) -> Result<(), N
 /// The parts of boxes, in order.
 pub(crate) fn parts_of(alloc: Global, layer: Layer<'_>, boxes: &[Bx]) -> Result<Vec<Part>, NoMemory>
     requires of_layer { All (IsBoxOf layer) boxes.now }
-    ensures texts { IfOk result (λ v. flat_map (part_text layer.entry) v.items ≡ flat_map (box_text (names_species layer.entry.problem.now) (masses_in layer.entry)) boxes.now) }
+    ensures texts { IfOk result (λ v. flat_map (part_text layer.entry) v.items ≡ boxes_text layer.entry boxes.now) }
     ensures of_layer { IfOk result (λ v. All (IsPartOf layer.entry) v.items) }
 {
     let mut parts = Vec::new(alloc);

@@ -2,9 +2,8 @@
 
 ghost use Rattle.std.specs.Prelude.{◌≡◌, ℕ, ◌*◌, ◌<◌, List, length, take, IfOk};
 ghost use Rattle.std.specs.List.{All, flat_map};
-ghost use Rattle.amr_def.specs.Plot.{box_text, names_species};
 ghost use Rattle.amr_plot.specs.BoxParts.{IsPartOf, part_text};
-ghost use Rattle.amr_plot.specs.Layers.{IsLayer, boxes_in, masses_in};
+ghost use Rattle.amr_plot.specs.Layers.{boxes_in, boxes_text, IsLayer};
 ghost use Rattle.amr_plot.specs.Texts.{AreTextsOfRuns, joined};
 ghost use Rattle.amr_plot.specs.declared.parts.Part.{Part};
 
@@ -59,7 +58,7 @@ pub(crate) fn texts_by_runs<R: Threads + Sync>(
 ) -> Result<Vec<Vec<u8>>, NoMemory>
     requires some { 0 < threads }
     requires layer { IsLayer layer }
-    ensures { IfOk result (λ v. joined v.items ≡ flat_map (box_text (names_species layer.entry.problem.now) (masses_in layer.entry)) (boxes_in layer.entry)) }
+    ensures { IfOk result (λ v. joined v.items ≡ boxes_text layer.entry (boxes_in layer.entry)) }
 {
     let parts = parts_of(alloc, layer, layer.boxes())?;
     let size = parts.len().div_ceil(threads).max(1);

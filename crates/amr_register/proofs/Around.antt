@@ -25,7 +25,7 @@ use Rattle.amr_patch.proofs.Rows.{inside, is_inside}
 use Rattle.amr_faces.specs.Faces.{IsInDomain}
 use Rattle.amr_register.specs.RegisterCells.{has_neighbour_where, is_register_cell}
 use Rattle.amr_register.specs.Beside.{stands_beside}
-use Rattle.amr_register.specs.Collecting.{FindsAround}
+use Rattle.amr_register.specs.CellLists.{FindsAround}
 use Rattle.amr_register.proofs.CellLists.{of_level}
 use Rattle.amr_register.proofs.CollectLaws.{BoxesDone, is_beside, none_covered}
 use Rattle.amr_register.proofs.Homes.{HasSize, IsWithinDomain, size_at, within_domain}

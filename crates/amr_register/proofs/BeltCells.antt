@@ -12,7 +12,7 @@ use Rattle.amr_patch.proofs.Rows.{between, sides}
 use Rattle.amr_register.specs.declared.belts.Belt.{Belt}
 use Rattle.amr_register.specs.Belts.{is_in_belt}
 use Rattle.amr_register.specs.Beside.{stands_beside, stands_in}
-use Rattle.amr_register.specs.Collecting.{FindsAround}
+use Rattle.amr_register.specs.CellLists.{FindsAround}
 
 -- ---- ends
 

@@ -16,7 +16,7 @@ use Rattle.amr_patch.proofs.Rows.{is_inside, sides}
 use Rattle.amr_faces.specs.Faces.{IsInDomain}
 use Rattle.amr_register.specs.RegisterCells.{has_neighbour_where, is_register_cell}
 use Rattle.amr_register.specs.Beside.{IsBesideDomain, stands_beside}
-use Rattle.amr_register.specs.Collecting.{Collects, Finds, FindsAround, FindsBelowAndAbove, FindsLeftAndRight}
+use Rattle.amr_register.specs.CellLists.{Collects, Finds, FindsAround, FindsBelowAndAbove, FindsLeftAndRight}
 use Rattle.amr_register.proofs.RowOrder.{nothing_among}
 use Rattle.amr_register.proofs.Taken.{same_at}
 use Rattle.amr_register.proofs.Homes.{HasSize, beside_domain, domain_cell, home_inside, moved_home}

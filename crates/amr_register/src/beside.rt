@@ -12,7 +12,7 @@ ghost use Rattle.amr_register.specs.Bands.{cells_between};
 ghost use Rattle.amr_register.specs.Beside.{IsDomainCell, stands_in};
 ghost use Rattle.amr_register.specs.Covers.{covers};
 ghost use Rattle.amr_register.specs.Bars.{IsStretch};
-ghost use Rattle.amr_register.specs.Collecting.{Collects, Finds, FindsAround, FindsBelowAndAbove, FindsLeftAndRight};
+ghost use Rattle.amr_register.specs.CellLists.{Collects, Finds, FindsAround, FindsBelowAndAbove, FindsLeftAndRight};
 
 use crate::bars::Stretch;
 use crate::belts::{Belt, is_in_belt, may_reach};

@@ -22,7 +22,7 @@ use amr_box::Bx;
 use amr_causes::NoMemory;
 use amr_def::Problem;
 use amr_patch::{Level, Mesh};
-use amr_transfer::{Alone, InThreads, Sharing};
+use amr_transfer::{CallingThread, InThreads, Sharing};
 use std::alloc::Global;
 use std::mem::swap;
 use std::thread::Threads;
@@ -155,7 +155,7 @@ pub fn regrid_all(alloc: Global, p: &Problem, meshes: &mut [Mesh]) -> Result<(),
     ensures refused { OnErr result (map state_of meshes.new ≡ map state_of meshes.old) }
     ensures refused_patches { OnErr result (map (λ m. outlines (levels_of m)) meshes.new ≡ map (λ m. outlines (levels_of m)) meshes.old) }
 {
-    regrid_by(&Alone, alloc, p, meshes)
+    regrid_by(&CallingThread, alloc, p, meshes)
 }
 
 /// The same, where the masses of the cells of large new levels are shared out among so many threads. For 0 and for 1 none is
@@ -231,7 +231,7 @@ pub fn regrid(alloc: Global, p: &Problem, mesh: &mut Mesh) -> Result<(), NoMemor
     ensures refused { OnErr result (state_of mesh.new ≡ state_of mesh.old) }
     ensures refused_patches { OnErr result (outlines (levels_of mesh.new) ≡ outlines (levels_of mesh.old)) }
 {
-    regrid_one(&Alone, alloc, p, mesh)
+    regrid_one(&CallingThread, alloc, p, mesh)
 }
 
 /// The same, where the masses of the cells of large new levels are shared out among so many threads. For 0 and for 1 none is

@@ -4,7 +4,7 @@ use Rattle.std.specs.Prelude.{IsErrAnd}
 use Rattle.amr_causes.specs.Causes.{Rose}
 use Rattle.amr_run.specs.Faults.{Faults, HasCauses}
 use Rattle.amr_run.specs.Outcome.{status_of}
-use Rattle.amr_run.specs.Reading.{RefusesBy}
+use Rattle.amr_run.specs.Sources.{RefusesBy}
 use Rattle.amr_run.specs.declared.status.Status.{Status}
 use Rattle.amr_run.specs.declared.status.Status.TheVariants as status
 

@@ -34,7 +34,7 @@ use Rattle.amr_cli.specs.declared.command.Command.{Command}
 use Rattle.amr_run.specs.Answer.{IsKeptRun, IsPlotOfKeptRun, WasFound, stop_of}
 use Rattle.amr_run.specs.Kept.{KeptReplies}
 use Rattle.amr_run.specs.Outcome.{BeginsLines, EndsAtSource, EndsBefore, EndsRun, EndsSettled, RefusesStored, RepliesBy, RunsThrough, StopsBy, StopsKept, StopsRun, StopsTo, status_of}
-use Rattle.amr_run.specs.Reading.{RefusesBy}
+use Rattle.amr_run.specs.Sources.{RefusesBy}
 use Rattle.amr_run.specs.Refusals.{keep_refused, resume_refused}
 use Rattle.amr_run.specs.Table.{JudgesStorable, RefusesRunTo, kept_row, meaning}
 use Rattle.amr_run.specs.declared.commands.Marks.{Marks}

@@ -34,7 +34,7 @@ use Rattle.amr_checkpoint.specs.declared.refusal.Refusal.{Refusal}
 use Rattle.amr_checkpoint.specs.Contents.{Content, Holds}
 use Rattle.amr_run.specs.Answer.{IsLineOfProblem, IsLineOfTrial, IsPlotOfRun, IsSoundRun, IsViewOfRun, stop_of}
 use Rattle.amr_run.specs.Outcome.{EndsAtSource, EndsByLine, Outcome, RefusesStored, RepliesBy, RepliesTo, status_of}
-use Rattle.amr_run.specs.Reading.{ReadsBy, RefusesBy, TakesAtMost}
+use Rattle.amr_run.specs.Sources.{ReadsBy, RefusesBy, TakesAtMost}
 use Rattle.amr_run.specs.Table.{HasAnswer, IsGiven, JudgesBatch, JudgesProblem, JudgesStorable, JudgesView, Meaning, TellsAccepted, meaning, run_meaning, trial_row, view_row}
 use Rattle.amr_run.specs.Refusals.{judge_refused, read_refused}
 use Rattle.amr_run.specs.Texts.{message, problem_line}

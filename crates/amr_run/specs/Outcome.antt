@@ -21,7 +21,8 @@ use Rattle.amr_run.specs.Texts.{message}
 use Rattle.amr_cli.specs.declared.command.Command.{Command}
 use Rattle.amr_run.specs.declared.commands.Marks.{Marks}
 use Rattle.amr_run.specs.declared.status.Status.{Status}
-use Rattle.amr_run.specs.declared.status.Status.TheVariants.{Done, Usage, ReadFault, Problem as BadProblem, BadBatch, Species, BadView, DiskFault, Store, WriteFault, NoMemory}
+use Rattle.amr_run.specs.declared.status.Status.TheVariants.{Done, Usage, ReadFault, Problem as BadProblem, BadBatch}
+use Rattle.amr_run.specs.declared.status.Status.TheVariants.{Species, BadView, DiskFault, Store, WriteFault, NoMemory}
 
 -- how a command ended: with its answer, or with the status that refuses it
 abbrev pub status_of : {T : Type 0} → Result T Status → Status

@@ -8,7 +8,7 @@ use Rattle.amr_cli.specs.declared.command.Command.{Command}
 use Rattle.amr_problem.specs.declared.fault.ProblemFault.{ProblemFault}
 use Rattle.amr_store.specs.Phases.{OnlyReads}
 use Rattle.amr_run.specs.Outcome.{EndsByLine, EndsSettled, Outcome, StopsTo}
-use Rattle.amr_run.specs.Reading.{TakesAtMost}
+use Rattle.amr_run.specs.Sources.{TakesAtMost}
 use Rattle.amr_run.specs.Table.{HasAnswer, KeepsCheckpoints, OpensStore, ReadsSource, meaning}
 use Rattle.amr_run.specs.declared.status.Status.{Status}
 use Rattle.amr_run.specs.declared.status.Status.TheVariants.{Done, ReadFault, Problem, Species, DiskFault, Store, WriteFault, NoMemory}

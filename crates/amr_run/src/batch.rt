@@ -9,7 +9,7 @@ ghost use Rattle.amr_def.specs.Species.{run_all};
 ghost use Rattle.amr_run.specs.Answer.{IsSoundRun};
 ghost use Rattle.amr_run.specs.Batch.{IsReplyTo};
 ghost use Rattle.amr_run.specs.Outcome.{RepliesBy, status_of};
-ghost use Rattle.amr_run.specs.Reading.{TakesAtMost};
+ghost use Rattle.amr_run.specs.Sources.{TakesAtMost};
 ghost use Rattle.amr_run.specs.Table.{batch_row};
 ghost use Rattle.amr_run.specs.Texts.{message};
 

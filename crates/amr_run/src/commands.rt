@@ -14,7 +14,7 @@ ghost use Rattle.amr_store.specs.Phases.{OnlyReads};
 ghost use Rattle.amr_run.specs.Answer.{IsSoundRun, stop_of};
 ghost use Rattle.amr_run.specs.Faults.{HasCauses, faults_at};
 ghost use Rattle.amr_run.specs.Outcome.{EndsAtSource, EndsSettled, RepliesBy, StopsRun, status_of};
-ghost use Rattle.amr_run.specs.Reading.{TakesAtMost};
+ghost use Rattle.amr_run.specs.Sources.{TakesAtMost};
 ghost use Rattle.amr_run.specs.Table.{check_row, kept_row, run_row, show_row, trial_row};
 
 use crate::Status;

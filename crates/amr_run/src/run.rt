@@ -5,7 +5,7 @@ ghost use Rattle.amr_causes.specs.Bytes.{Grows, WereLeft};
 ghost use Rattle.amr_cli.specs.Words.{HasRanges, HasWorkers, command_of};
 ghost use Rattle.amr_run.specs.Faults.{HasCauses, faults_at};
 ghost use Rattle.amr_run.specs.Outcome.{EndsAtSource, EndsSettled, Outcome, RepliesTo, StopsTo, status_of};
-ghost use Rattle.amr_run.specs.Reading.{TakesAtMost};
+ghost use Rattle.amr_run.specs.Sources.{TakesAtMost};
 ghost use Rattle.amr_run.specs.Served.{Serves};
 ghost use Rattle.amr_run.specs.Table.{KeepsCheckpoints, OpensStore, ReadsSource, meaning};
 ghost use Rattle.amr_store.specs.Phases.{OnlyReads};

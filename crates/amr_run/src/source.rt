@@ -3,7 +3,7 @@ ghost use Rattle.std.specs.Prelude.{◌≡◌, ◌≢◌, List, ℕ, Err, OnOk};
 ghost use Rattle.std.specs.Io.KnownBytes.{IsAtEnd};
 ghost use Rattle.amr_causes.specs.Bytes.{WereLeft};
 ghost use Rattle.amr_causes.specs.Causes.{Rose};
-ghost use Rattle.amr_run.specs.Reading.{Reads, ReadsBatch, ReadsStorable, TakesAtMost};
+ghost use Rattle.amr_run.specs.Sources.{Reads, ReadsBatch, ReadsStorable, TakesAtMost};
 ghost use Rattle.amr_run.specs.Refusals.{batch_unread};
 
 use crate::Status;

@@ -6,7 +6,7 @@ ghost use Rattle.amr_causes.specs.Causes.{Rose};
 ghost use Rattle.amr_cli.specs.Words.{AreShort};
 ghost use Rattle.amr_def.specs.Domain.{domain_of};
 ghost use Rattle.amr_run.specs.Outcome.{RepliesBy, status_of};
-ghost use Rattle.amr_run.specs.Reading.{TakesAtMost};
+ghost use Rattle.amr_run.specs.Sources.{TakesAtMost};
 ghost use Rattle.amr_run.specs.Table.{view_row};
 ghost use Rattle.amr_run.specs.Views.{bad_view, box_of, is_box_in};
 

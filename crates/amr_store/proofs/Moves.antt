@@ -5,7 +5,7 @@ use Rattle.std.specs.Prelude.{slice_index, slice_set, option_map, IfSome}
 use Rattle.amr_disk.specs.Image.{Torn}
 use Rattle.amr_store.proofs.Gates.{gate_torn, opening, state_kept}
 use Rattle.amr_store.proofs.Images.{inner_whole, reads_changed, stored_is, end_first}
-use Rattle.amr_store.proofs.Parts.{Kept, slot_changed, slots_set, count_kept}
+use Rattle.amr_store.proofs.Parts.{HasPutEntry, slot_changed, slots_set, count_kept}
 use Rattle.amr_store.proofs.Places.{Outside, torn_outside, outside_drop}
 use Rattle.amr_store.proofs.Slots.{sound_closed, entry_closed, gate_within}
 use Rattle.amr_store.proofs.Tables.{TwoBases, next_or_latest, table_length, table_index, table_more, table_same, gates_apart, gate_first, set_same}
@@ -99,7 +99,7 @@ shows part a b r s e f = ap (λ (o : Option Entry). record (state_of part) { lat
 -- the image still reads as a store, with this entry in the slot and all else as it was
 pub record Moved (k : ℕ) (old new : List ℕ) (base : ℕ) (entry : Option Entry) : Type 0 where
   pub reads : Reads new base
-  pub kept : Kept (drop base old) (drop base new) k entry
+  pub kept : HasPutEntry (drop base old) (drop base new) k entry
   pub slots : slots_of (drop base new) ≡ slice_set (slots_of (drop base old)) k (option_map slot_of entry)
 
 abbrev slots_with : List ℕ → ℕ → Option Entry → List (Option Slot)

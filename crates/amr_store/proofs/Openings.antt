@@ -15,11 +15,11 @@ use Rattle.amr_store.specs.declared.part.Part.{Part}
 use Rattle.amr_store.specs.declared.part.Part.TheVariants.{Renewal}
 use Rattle.amr_store.specs.declared.slot.Slot.{Slot}
 use Rattle.amr_store.specs.declared.store.Store.{Store}
-use Rattle.amr_store.specs.declared.reading.Head.{Head}
-use Rattle.amr_store.specs.Checking.{IsOutline, IsHeldBy, IsInner, IsRenewedAt}
+use Rattle.amr_store.specs.declared.fields.Head.{Head}
+use Rattle.amr_store.specs.Checks.{IsOutline, IsHeldBy, IsInner, IsRenewedAt}
 use Rattle.amr_store.specs.Layout.{magic_1, magic_3, version_by, long_at, problem_of, text_length, end_of}
 use Rattle.amr_store.specs.Opened.{Finds, FindsIn, IsReadyFound, IsRenewedFound, IsStoreAtBase, IsUnshut}
-use Rattle.amr_store.specs.Reading.{SaysHead, magic_in}
+use Rattle.amr_store.specs.Fields.{SaysHead, magic_in}
 use Rattle.amr_store.specs.Table.{chain_of, last_of, latest_base, sequence_in, slot_at}
 use Rattle.amr_store.proofs.Recorded.{of_records, first_records}
 use Rattle.amr_disk.specs.Image.{Only}

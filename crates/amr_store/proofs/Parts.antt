@@ -87,7 +87,7 @@ assembled old new whole longer head sound tie harmless = record {
 }
 
 -- new is a store with the head of old, of which one slot was written and holds this entry
-pub record Kept (old new : List ℕ) (k : ℕ) (entry : Option Entry) : Type 0 where
+pub record HasPutEntry (old new : List ℕ) (k : ℕ) (entry : Option Entry) : Type 0 where
   pub head : SameHead old new
   pub whole : Whole true new
   pub here : entry_of new k ≡ entry
@@ -119,7 +119,7 @@ other_slot old new k j whole out within other = elim (cases_Bool (nat_lt j k)) [
 -- a slot was written, or its gate
 pub slot_changed : (old new : List ℕ) (k : ℕ) → k < count_of old → Whole true old → Outside (gate_of old k) (gate_of old k + (17 + size_of old)) old new → is_broken new (gate_of old k) (size_of old) ≡ false
     → is_tied (deltas_of old) (slice_set (slots_of old) k (option_map slot_of (entry_at new (gate_of old k)))) ≡ false
-    → IsHarmless (deltas_of old) (slice_set (slots_of old) k (option_map slot_of (entry_at new (gate_of old k)))) → Kept old new k (entry_at new (gate_of old k))
+    → IsHarmless (deltas_of old) (slice_set (slots_of old) k (option_map slot_of (entry_at new (gate_of old k)))) → HasPutEntry old new k (entry_at new (gate_of old k))
 slot_changed old new k within whole out sound tie harmless =
     let head = head_kept old new (gate_of old k) (gate_of old k + (17 + size_of old)) whole (gate_first k (lead_of old) (size_of old)) out in
     let here : entry_of new k ≡ entry_at new (gate_of old k) = ap (λ (g : ℕ). entry_at new g) (gate_kept old new k head) in

@@ -14,12 +14,12 @@ use Rattle.amr_store.specs.declared.part.Part.{Part}
 use Rattle.amr_store.specs.declared.part.Part.TheVariants.{Slot, Tie}
 use Rattle.amr_store.specs.declared.check.SlotsFound.{SlotsFound}
 use Rattle.amr_store.specs.declared.check.SlotsFound.TheVariants.{Sound as AllSound, Broken as AnyBroken}
-use Rattle.amr_store.specs.declared.reading.Head.{Head}
-use Rattle.amr_store.specs.declared.reading.SlotFound.TheVariants.{Sound, Broken}
+use Rattle.amr_store.specs.declared.fields.Head.{Head}
+use Rattle.amr_store.specs.declared.fields.SlotFound.TheVariants.{Sound, Broken}
 use Rattle.amr_store.specs.declared.slot.Slot.{Slot as Known}
-use Rattle.amr_store.specs.Checking.{AreSlots, SlotsRead, BrokenFirst, Checks}
+use Rattle.amr_store.specs.Checks.{AreSlots, SlotsRead, BrokenFirst, Checks}
 use Rattle.amr_store.specs.Layout.{open_gate, magic_1, magic_2, magic_3, version_by, lead_length, lead_of, long_at, word_at, gate_at, size_of, text_length}
-use Rattle.amr_store.specs.Reading.{IsRead, IsHeadOf, SaysHead, AreDeltas, IsBegun, IsOpened, IsSlot, version_read, deltas_read, head_with, head_read, magic_in, front_read, slot_read}
+use Rattle.amr_store.specs.Fields.{IsRead, IsHeadOf, SaysHead, AreDeltas, IsBegun, IsOpened, IsSlot, version_read, deltas_read, head_with, head_read, magic_in, front_read, slot_read}
 use Rattle.amr_store.specs.Stored.{Entry, entry_at, is_open, is_broken, front_in, slot_of, has_magic_3, has_bad_deltas, deltas_of, count_of, slots_of, slot_tests, first_found}
 use Rattle.amr_store.specs.Table.{table, slot_count, is_tied, IsFirstStray}
 use Rattle.amr_store.proofs.Leads.{other_sound, other_deltas, third_deltas, other_version, number_sound}

@@ -1,17 +1,17 @@
 //! The tests on the store at a base, in their order.
 ghost use Rattle.std.specs.Prelude.{◌≡◌, ◌≤◌, ◌<◌, ◌+◌, ◌^◌, false, drop, length, IfOk, IfSome, OnOk};
 ghost use Rattle.amr_causes.specs.Causes.{HasCause};
-ghost use Rattle.amr_store.specs.Checking.{AreSlots, Checks, HasAll, HasRoom};
+ghost use Rattle.amr_store.specs.Checks.{AreSlots, Checks, HasAll, HasRoom};
 ghost use Rattle.amr_store.specs.Phases.{OnlyReads, Told};
-ghost use Rattle.amr_store.specs.Reading.{AreDeltas, SaysHead, deltas_read, magic_in, deltas_tests, text_tests};
+ghost use Rattle.amr_store.specs.Fields.{AreDeltas, SaysHead, deltas_read, magic_in, deltas_tests, text_tests};
 ghost use Rattle.amr_store.specs.Reasons.{HasReason, is_shut_fault};
 ghost use Rattle.amr_store.specs.Layout.{gate_at, lead_length};
 ghost use Rattle.amr_store.specs.Stored.{deltas_of, slot_tests, tests};
 ghost use Rattle.amr_store.specs.Table.{IsNumbered, slot_count};
 
 use crate::device::{has_byte_from, read_from};
+use crate::fields::{Head, SlotFound, read_head, read_slot};
 use crate::part::{Part, StoreFault};
-use crate::reading::{Head, SlotFound, read_head, read_slot};
 use crate::slot::{Slot, first_stray, gate_at, is_tied, lead_length};
 use amr_disk::{Disk, DiskFault};
 use std::alloc::Global;

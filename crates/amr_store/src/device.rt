@@ -3,7 +3,7 @@ ghost use Rattle.std.specs.Prelude.{◌≡◌, ◌<◌, ◌+◌, ◌^◌, nat_lt
 ghost use Rattle.amr_causes.specs.Causes.{HasCause};
 ghost use Rattle.amr_disk.specs.Image.{written_at, Torn, Only};
 ghost use Rattle.amr_store.specs.Phases.{OnlyReads, StopsFrom, Told, TornTwice, TornThrice};
-ghost use Rattle.amr_store.specs.Reading.{IsRead};
+ghost use Rattle.amr_store.specs.Fields.{IsRead};
 ghost use Rattle.amr_store.specs.Stored.{is_open};
 
 use crate::put::OPEN;

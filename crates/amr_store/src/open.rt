@@ -2,19 +2,19 @@
 ghost use Rattle.std.specs.Prelude.{◌≡◌, ◌≤◌, ◌<◌, ◌+◌, ◌^◌, true, false, List, ℕ, Some, length, drop, slice_range, IfOk, OnOk, vec_len};
 ghost use Rattle.amr_causes.specs.Causes.{HasCause};
 ghost use Rattle.amr_disk.specs.Image.{Only};
-ghost use Rattle.amr_store.specs.Checking.{IsOutline, IsHeldBy, IsInner, IsRenewedAt};
+ghost use Rattle.amr_store.specs.Checks.{IsOutline, IsHeldBy, IsInner, IsRenewedAt};
 ghost use Rattle.amr_store.specs.Opened.{Finds, FindsIn, IsReadyFound, IsRenewedFound, IsUnshut};
 ghost use Rattle.amr_store.specs.Phases.{OnlyReads, Told};
-ghost use Rattle.amr_store.specs.Reading.{SaysHead};
+ghost use Rattle.amr_store.specs.Fields.{SaysHead};
 ghost use Rattle.amr_store.specs.Reasons.{HasReason, is_disk_fault, is_no_memory, is_shut_fault};
 ghost use Rattle.amr_store.specs.Stored.{stored, is_empty, is_renewed};
 ghost use Rattle.amr_store.specs.Table.{slot_count, AreSound, IsNumbered};
 
 use crate::check::{Checked, Outline, check};
 use crate::device::{has_open_gate, read_from};
+use crate::fields::Head;
 use crate::found::Found;
 use crate::part::{Part, StoreFault};
-use crate::reading::Head;
 use crate::slot::end_of;
 use crate::store::Store;
 use amr_disk::{Disk, DiskFault};

@@ -15,8 +15,8 @@ ghost use Rattle.amr_store.specs.Stored.{SameOr, SameOrPut, SameOrRecorded, Same
 ghost use Rattle.amr_store.specs.Table.{is_base};
 
 use crate::device::{write_synced, write_two_synced};
+use crate::fields::front_of;
 use crate::part::StoreFault;
-use crate::reading::front_of;
 use crate::slot::Slot;
 use crate::store::Store;
 use amr_disk::Disk;

@@ -13,9 +13,9 @@ ghost use Rattle.amr_store.specs.Stored.{stored, Held};
 
 use crate::create::head_of;
 use crate::device::{has_byte, write_synced, write_two_synced};
+use crate::fields::front_of;
 use crate::part::StoreFault;
 use crate::put::{OPEN, slot_head};
-use crate::reading::front_of;
 use crate::slot::{Slot, end_of, gate_at};
 use crate::store::Store;
 use amr_disk::{Disk, DiskFault};

@@ -6,7 +6,7 @@ ghost use Rattle.amr_patch.specs.Levels.{level_of};
 ghost use Rattle.amr_patch.specs.Orders.{IsOrderOf};
 ghost use Rattle.amr_layout.specs.Adds.{HasRegisterCells};
 ghost use Rattle.amr_board.specs.declared.board.Shape.{Shape as form};
-ghost use Rattle.amr_lots.specs.declared.lot.Basis.{Basis as ground_of};
+ghost use Rattle.amr_lots.specs.declared.lot.StepBasis.{StepBasis as ground_of};
 ghost use Rattle.amr_lots.specs.declared.lot.Duty.TheVariants.{Step};
 ghost use Rattle.amr_lots.specs.declared.lot.Lot.{Lot as lot};
 ghost use Rattle.amr_lots.specs.declared.lot.Work.{Work as piece};
@@ -20,7 +20,7 @@ use amr_board::{Board, Ended, Seat};
 use amr_causes::NoMemory;
 use amr_def::Problem;
 use amr_layout::{Surroundings, plan};
-use amr_lots::{Basis, LevelWork, Stage, Work};
+use amr_lots::{LevelWork, LotStage, StepBasis, Work};
 use amr_patch::{Level, Order, Patch, starts_of};
 use amr_samples::nine_columns;
 use amr_start::base;
@@ -106,7 +106,7 @@ fn open_patches<R: Threads + Wait + Sync>(
 }
 
 /// What the first step of level 0 is made from.
-fn first_step<'a>(alloc: Global, p: &'a Problem, basis: &'a Basis) -> StepInput<'a>
+fn first_step<'a>(alloc: Global, p: &'a Problem, basis: &'a StepBasis) -> StepInput<'a>
     ensures problem { result.problem.now ≡ p.now }
     ensures level { result.level ≡ 0 }
     ensures old { result.old ≡ None }
@@ -139,7 +139,7 @@ fn open_level<R: Threads + Wait + Sync>(
 {
     let order = level.order();
     let mut patches = level.take_patches();
-    let basis = Basis {
+    let basis = StepBasis {
         problem: Snapshot::of(p),
         patches: Snapshot::of(&patches),
         coarser: None,
@@ -150,7 +150,7 @@ fn open_level<R: Threads + Wait + Sync>(
 }
 
 /// How far each of so many tasks got.
-fn stages(alloc: Global, mut ended: Ended<Work>, count: u32) -> Result<Vec<Stage>, NoMemory>
+fn stages(alloc: Global, mut ended: Ended<Work>, count: u32) -> Result<Vec<LotStage>, NoMemory>
     requires { (t : ℕ) → t < count → (w : piece) × IsPieceOf ended t w }
 {
     let mut all = Vec::new(alloc);
@@ -166,7 +166,7 @@ fn stages_after<R: Threads + Wait + Sync>(
     rt: &R,
     alloc: Global,
     p: &Problem,
-) -> Result<(Vec<Stage>, [u32; 3]), NoMemory>
+) -> Result<(Vec<LotStage>, [u32; 3]), NoMemory>
     requires { 0 < p.now.steps }
 {
     let level = start_level(alloc, p)?;
@@ -187,7 +187,7 @@ fn last_task_alone_is_finished(rt: HostRuntime) -> Result<(), Fail> {
     let (all, places) = stages_after(&rt, alloc, &p)?;
     assert_eq!(rt;
         all.as_slice(),
-        [Stage::Swept, Stage::Swept, Stage::Finished].as_slice()
+        [LotStage::Swept, LotStage::Swept, LotStage::Finished].as_slice()
     );
     assert_eq!(rt; places, [9, 6, 0]);
     let masses = masses_after_a_step(&rt, alloc, &p, 1, &OpenGate)?;

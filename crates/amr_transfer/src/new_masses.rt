@@ -17,7 +17,7 @@ ghost use Rattle.amr_transfer.specs.Shares.{HasChildren, IsInSync, kept_or_split
 use crate::cells::{ROOM, above, ahead, cells_from, odd};
 use crate::old_cells::{keep, keep_whole};
 use crate::spans::give;
-use crate::threads::{Alone, Sharing};
+use crate::threads::{CallingThread, Sharing};
 use amr_box::{Cell, parent};
 use amr_patch::{Level, Order, Patch, find_near, order_of};
 
@@ -179,7 +179,7 @@ pub fn split_into(coarse: &Level, old_fine: Option<&Level>, fine: &mut Level)
         → IsInSync (level_of coarse.now).masses (masses_before (option_copied old_fine.entry)) c
         → children_mass (level_of fine.new).masses c ≡ mass_of (level_of coarse.now).masses c }
 {
-    split_by(&Alone, coarse, old_fine, fine);
+    split_by(&CallingThread, coarse, old_fine, fine);
 }
 
 /// The same, by the calling thread alone or in several threads. The masses are the same whichever it is.

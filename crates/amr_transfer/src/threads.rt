@@ -17,7 +17,7 @@ use std::thread::{Threads, for_each_chunk_mut};
 // From how many cells on patches are shared out among threads. With fewer a thread costs more than it saves.
 const MANY: u64 = 1 << 16;
 
-/// Who gives the patches of a level their masses: the calling thread alone ([`Alone`]), or several threads ([`InThreads`]).
+/// Who gives the patches of a level their masses: the calling thread alone ([`CallingThread`]), or several threads ([`InThreads`]).
 pub trait Sharing {
     // That threads may share the runtime, where there is one.
     ghost may_share: { Self → Type 0 };
@@ -33,9 +33,9 @@ pub trait Sharing {
 
 /// The calling thread goes over all patches.
 #[derive(Clone, Copy, Debug)]
-pub struct Alone;
+pub struct CallingThread;
 
-impl Sharing for Alone {
+impl Sharing for CallingThread {
     ghost may_share = { λ _. Unit {0} };
 
     fn fill(&self, coarse: &Level, old: &[Patch], patches: &mut [Patch]) {

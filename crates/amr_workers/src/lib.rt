@@ -17,7 +17,7 @@ pub use gate::{Gate, OpenGate};
 pub use helper::{Helper, Recruit};
 pub use job::Job;
 pub use kept::serve_all;
-pub use order::{About, DrawOrder, Duty, OrderAsker, OrderBox, OrderWorker};
+pub use order::{About, DrawErrand, DrawOrder, OrderAsker, OrderBox, OrderWorker};
 pub use phase::run_phase;
 pub use shared::sole;
 pub use team::Team;

@@ -30,18 +30,19 @@ pub struct About<J, G> {
 }
 
 /// The errand of kept workers.
-pub struct Duty<P, J, G> {
+pub struct DrawErrand<P, J, G> {
     duty: PhantomData<(P, J, G)>,
 }
 
-impl<P: Piece, J: Job<P>, G: Gate> Errand<DrawOrder<P>, Seat<P>, About<J, G>> for Duty<P, J, G> {
+impl<P: Piece, J: Job<P>, G: Gate> Errand<DrawOrder<P>, Seat<P>, About<J, G>>
+    for DrawErrand<P, J, G> {
     ghost may = { λ about order. MayAsk (J.ready about.job.value) (G.admits about.gate.value about.number) order };
 
     ghost serves = { λ order seat. Serves order seat };
 }
 
 /// Where the orders of a kept worker lie.
-pub type OrderBox<P, J, G> = Mailbox<DrawOrder<P>, Seat<P>, About<J, G>, Duty<P, J, G>>;
+pub type OrderBox<P, J, G> = Mailbox<DrawOrder<P>, Seat<P>, About<J, G>, DrawErrand<P, J, G>>;
 
 /// The end of a mailbox that a team asks by.
 pub type OrderAsker<P, J, G> = Asker<DrawOrder<P>, Seat<P>, About<J, G>>;

@@ -36,50 +36,57 @@ pub fn run_phase<R: Threads + Sync, P: Piece + Send, J: Job<P> + Sync, G: Gate +
     ensures past { (view result).past ≡ true }
     ensures alone { (view result).share ≡ 2 ^ 32 }
 {
-    run_workers(rt, board, seat, job, gate, Crew { first: 0, workers })
+    run_workers(
+        rt,
+        board,
+        seat,
+        job,
+        gate,
+        WorkerRange { first: 0, workers },
+    )
 }
 
 // So many workers, whose numbers go from the first on.
 #[derive(Clone, Copy)]
-struct Crew {
+struct WorkerRange {
     first: u32,
     workers: u32,
 }
 
-// The workers of a crew, in two halves until each is alone.
+// The workers of a range, in two halves until each is alone.
 fn run_workers<R: Threads + Sync, P: Piece + Send, J: Job<P> + Sync, G: Gate + Sync>(
     rt: &R,
     board: &Board<P>,
     mut seat: Seat<P>,
     job: &J,
     gate: &G,
-    crew: Crew,
+    range: WorkerRange,
 ) -> Seat<P>
     requires seat { IsSeatOf board.now seat }
     requires none { HoldsNone (view seat) }
     requires here { (view seat).past ≡ false }
-    requires some { 1 ≤ crew.workers }
-    requires numbers { crew.first + crew.workers ≤ 64 }
-    requires share { crew.workers ≤ (view seat).share }
+    requires some { 1 ≤ range.workers }
+    requires numbers { range.first + range.workers ≤ 64 }
+    requires share { range.workers ≤ (view seat).share }
     requires ready { (t : ℕ) (p : P) → get_elem? board.now.pieces t ≡ some p → J.ready job.now board.now.plan p }
-    requires gate { (worker task : ℕ) → crew.first ≤ worker → worker < crew.first + crew.workers → task < length board.now.plan.tasks
+    requires gate { (worker task : ℕ) → range.first ≤ worker → worker < range.first + range.workers → task < length board.now.plan.tasks
         → G.admits gate.now worker task }
     ensures seat { IsSeatOf board.now result }
     ensures none { HoldsNone (view result) }
     ensures past { (view result).past ≡ true }
     ensures share { (view result).share ≡ (view seat).share }
 {
-    if crew.workers == 1 {
-        draw_all(board, &mut seat, job, gate, crew.first);
+    if range.workers == 1 {
+        draw_all(board, &mut seat, job, gate, range.first);
         return seat;
     }
-    let half = Crew {
-        first: crew.first,
-        workers: crew.workers / 2,
+    let half = WorkerRange {
+        first: range.first,
+        workers: range.workers / 2,
     };
-    let more = Crew {
-        first: crew.first + half.workers,
-        workers: crew.workers - half.workers,
+    let more = WorkerRange {
+        first: range.first + half.workers,
+        workers: range.workers - half.workers,
     };
     let other = board.split(&mut seat);
     let (mut one, two) = join(

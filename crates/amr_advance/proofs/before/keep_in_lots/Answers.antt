@@ -7,7 +7,7 @@ use Rattle.amr_lots.specs.declared.lot.Duty.{Duty}
 use Rattle.amr_lots.specs.declared.lot.Duty.TheVariants.{Keep}
 use Rattle.amr_lots.specs.declared.lot.Lot.{Lot}
 use Rattle.amr_lots.specs.Runs.{KeepAllButBefore, KeepOthers, run}
-use Rattle.amr_lots.specs.Serving.{IsServed, MayServe}
+use Rattle.amr_lots.specs.Duties.{IsServed, MayServe}
 use Rattle.amr_advance.proofs.KeptRuns.{AreServed, AreTraded, KeepRuns, all_traded, counts, few_lots, same_count, several_of, still_serve}
 use Rattle.amr_advance.proofs.LotCounts.{few_runs, fewer_tasks}
 use Rattle.amr_advance.proofs.KeptMasses.{AreTradedBefore, all_copied, all_may_keep, all_new, all_traded_before, before_back, before_counts, patches_back, same_patches}

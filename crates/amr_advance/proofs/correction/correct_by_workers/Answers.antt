@@ -16,7 +16,7 @@ use Rattle.amr_register.specs.declared.register.Register.{Register}
 use Rattle.amr_register.specs.Entries.{with_entries}
 use Rattle.amr_register.specs.Fields.{HasEdgesOf, cells_in, entry_in}
 use Rattle.amr_transfer.specs.Sums.{summed}
-use Rattle.amr_lots.specs.Correcting.{FitsEntries, finer_in, register_in}
+use Rattle.amr_lots.specs.Corrections.{FitsEntries, finer_in, register_in}
 use Rattle.amr_advance.specs.Lots.{StillServe}
 use Rattle.amr_advance.proofs.Corrected.{corrected_level, fits_each, tried_kept}
 use Rattle.amr_advance.proofs.correction.correct_by_workers.Given as given

@@ -8,7 +8,7 @@ use Rattle.amr_lots.specs.declared.lot.Duty.TheVariants.{Correct}
 use Rattle.amr_lots.specs.declared.lot.Lot.{Lot}
 use Rattle.amr_patch.specs.Patches.{masses_in}
 use Rattle.amr_lots.specs.Runs.{KeepOthers, run}
-use Rattle.amr_lots.specs.Serving.{IsServed, MayServe}
+use Rattle.amr_lots.specs.Duties.{IsServed, MayServe}
 use Rattle.amr_advance.specs.Correction.{KeepsAllButCorrection}
 use Rattle.amr_advance.proofs.KeptRuns.{AreServed, AreTraded, KeepRuns, PackRuns, all_traded, few_lots, now_serve, same_count, several_of, still_serve}
 use Rattle.amr_advance.proofs.CorrectedLots.{AreGivenBack, AreLentParts, IsGivenBack, all_corrected, all_current, all_given_back, all_may_correct, all_new, counts_back, lent_counts, lent_small}

@@ -1,6 +1,6 @@
 use Rattle.std.proofs.Common.{arith}
 use Rattle.std.specs.declared.option.Option.TheVariants.{None}
-use Rattle.amr_lots.specs.Correcting.{with_correction}
+use Rattle.amr_lots.specs.Corrections.{with_correction}
 use Rattle.amr_lots.proofs.InPlaces.{all_changed, none_changed, one_more_changed}
 use Rattle.amr_advance.proofs.correction.take_back.Goals as goal
 

@@ -2,7 +2,7 @@ use Rattle.std.proofs.Common.{◌≡◌}
 use Rattle.std.specs.declared.option.Option.TheVariants.{None}
 use Rattle.std.specs.Global.{Box}
 use Rattle.amr_lots.specs.declared.lot.Lot.{Lot}
-use Rattle.amr_lots.specs.Correcting.{with_correction}
+use Rattle.amr_lots.specs.Corrections.{with_correction}
 use Rattle.amr_lots.proofs.InPlaces.{AreChangedTo}
 use Rattle.amr_advance.proofs.correction.take_back.Given as goal
 

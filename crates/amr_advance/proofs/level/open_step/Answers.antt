@@ -7,13 +7,13 @@ use Rattle.std.proofs.lemmas.Result.{IfOk-weaker, on_err_weaker, on_ok_weaker}
 use Rattle.amr_def.specs.declared.problem.Problem.{Problem}
 use Rattle.amr_ghost.specs.Frames.{old_masses}
 use Rattle.amr_board.specs.declared.board.Shape.{Shape}
-use Rattle.amr_lots.specs.declared.lot.Basis.{Basis}
+use Rattle.amr_lots.specs.declared.lot.StepBasis.{StepBasis}
 use Rattle.amr_lots.specs.declared.lot.Duty.{Duty}
 use Rattle.amr_lots.specs.declared.lot.Duty.TheVariants.{Step}
 use Rattle.amr_lots.specs.declared.lot.Lot.{Lot}
 use Rattle.amr_lots.specs.Runs.{HasBoxes, run}
 use Rattle.amr_patch.specs.Patches.{masses_in}
-use Rattle.amr_advance.specs.Handing.{AreHanded, AreLent, HaveBeenHanded}
+use Rattle.amr_advance.specs.Handed.{AreHanded, AreLent, HaveBeenHanded}
 use Rattle.amr_advance.specs.Phases.{ArePieces, IsOpened, MayBeRun}
 use Rattle.amr_advance.proofs.Delivered.{all_may_send, sent_from}
 use Rattle.amr_advance.proofs.InLots.{IsInStep, in_step}
@@ -142,7 +142,7 @@ open_lots-requires-clause-pieces g c = λ ws raw.
     let at = goal.at.open_lots-requires-clause-pieces g c in
     let xs = (with_items c.pack_lots.new.lots.lots c.exchange_messages.new.lots).items in
     let of : ArePieces c.args.given.basis.now c.args.given.level Step xs ws =
-    subst (λ (b : Basis). ArePieces b c.args.given.level Step xs ws) c.phase_of.ensures.basis (subst (λ n. ArePieces c.phase_of.result.basis.now n Step xs ws) c.phase_of.ensures.level (subst (λ (d : Duty). ArePieces c.phase_of.result.basis.now c.phase_of.result.level d xs ws) c.phase_of.ensures.duty raw)) in
+    subst (λ (b : StepBasis). ArePieces b c.args.given.level Step xs ws) c.phase_of.ensures.basis (subst (λ n. ArePieces c.phase_of.result.basis.now n Step xs ws) c.phase_of.ensures.level (subst (λ (d : Duty). ArePieces c.phase_of.result.basis.now c.phase_of.result.level d xs ws) c.phase_of.ensures.duty raw)) in
     subst (λ (p : Problem). MayBeRun p c.pack_lots.new.lots.shape ws) (sym c.phase_of.ensures.problem)
     (subst (λ (h : Shape). MayBeRun c.args.given.problem.now h ws) (λ i. (sym c.pack_lots.ensures.rest i).shape)
     (may_run (in_its_step g at.After-exchange_runs) c.requires.several c.requires.lots.values (handed_over g at.After-exchange_messages) c.requires.edges c.requires.lots.packed
@@ -159,7 +159,7 @@ returns-clause-opened g c =
       handed_over g at.After-exchange_messages,
       subst (λ (h : Shape). IsOpened c.args.given.basis.now c.args.given.level Step c.args.given.problem.now h xs r.0 r.1) shape
           (subst (λ (p : Problem). IsOpened c.args.given.basis.now c.args.given.level Step p c.pack_lots.new.lots.shape xs r.0 r.1) c.phase_of.ensures.problem
-          (subst (λ (b : Basis). IsOpened b c.args.given.level Step q.problem.now c.pack_lots.new.lots.shape xs r.0 r.1) c.phase_of.ensures.basis
+          (subst (λ (b : StepBasis). IsOpened b c.args.given.level Step q.problem.now c.pack_lots.new.lots.shape xs r.0 r.1) c.phase_of.ensures.basis
           (subst (λ n. IsOpened q.basis.now n Step q.problem.now c.pack_lots.new.lots.shape xs r.0 r.1) c.phase_of.ensures.level
           (subst (λ (d : Duty). IsOpened q.basis.now q.level d q.problem.now c.pack_lots.new.lots.shape xs r.0 r.1) c.phase_of.ensures.duty begun)))),
     )) c.open_lots.ensures.opened

@@ -3,7 +3,7 @@ use Rattle.std.specs.Global.{Box}
 use Rattle.std.specs.List.{All, AllZip}
 use Rattle.amr_lots.specs.declared.lot.Duty.{Duty}
 use Rattle.amr_lots.specs.declared.lot.Lot.{Lot}
-use Rattle.amr_lots.specs.Serving.{IsServed, MayServe}
+use Rattle.amr_lots.specs.Duties.{IsServed, MayServe}
 use Rattle.amr_advance.proofs.level.pack_lots.Goals as goal
 
 pub serve_lots-requires-clause-may : goal.serve_lots-requires-clause-may

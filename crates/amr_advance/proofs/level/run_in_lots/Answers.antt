@@ -5,7 +5,7 @@ use Rattle.amr_def.specs.declared.problem.Problem.{Problem}
 use Rattle.amr_ghost.specs.Frames.{old_masses}
 use Rattle.amr_board.specs.declared.board.Shape.{Shape}
 use Rattle.amr_phase.specs.Plans.{planned_total}
-use Rattle.amr_lots.specs.declared.lot.Basis.{Basis}
+use Rattle.amr_lots.specs.declared.lot.StepBasis.{StepBasis}
 use Rattle.amr_lots.specs.declared.lot.Duty.TheVariants.{Step}
 use Rattle.amr_advance.specs.Crews.{MayRun}
 use Rattle.amr_advance.specs.Phases.{HaveMadeStep, IsOpened, planned}
@@ -25,7 +25,7 @@ opened g c =
     let shape : c.open_step.new.lots.shape ≡ c.args.lots.now.shape = λ i. (c.open_step.ensures.rest i).shape in
     subst (λ (h : Shape). IsOpened q.basis.now q.level Step q.problem.now h xs c.in-Ok.board c.in-Ok.seat) (sym shape)
     (subst (λ (p : Problem). IsOpened q.basis.now q.level Step p c.args.lots.now.shape xs c.in-Ok.board c.in-Ok.seat) (sym c.phase_of.ensures.problem)
-    (subst (λ (b : Basis). IsOpened b q.level Step c.args.given.problem.now c.args.lots.now.shape xs c.in-Ok.board c.in-Ok.seat) (sym c.phase_of.ensures.basis)
+    (subst (λ (b : StepBasis). IsOpened b q.level Step c.args.given.problem.now c.args.lots.now.shape xs c.in-Ok.board c.in-Ok.seat) (sym c.phase_of.ensures.basis)
     (subst (λ n. IsOpened c.args.given.basis.now n Step c.args.given.problem.now c.args.lots.now.shape xs c.in-Ok.board c.in-Ok.seat) (sym c.phase_of.ensures.level) c.in-Ok.ensures.opened.2)))
 
 -- as many pieces as lots
@@ -74,7 +74,7 @@ returns-in-Ok-clause-run g c =
     let rest = c.open_step.ensures.rest in
     let done = c.run_step.ensures.stepped xs (opened g (goal.at.returns-in-Ok-clause-run g c).After-phase_of) in
     let made : HaveMadeStep c.args.given.basis.now c.args.given.level xs c.open_step.new.lots u =
-    subst (λ (b : Basis). HaveMadeStep b c.args.given.level xs c.open_step.new.lots u) c.phase_of.ensures.basis (subst (λ n. HaveMadeStep c.phase_of.result.basis.now n xs c.open_step.new.lots u) c.phase_of.ensures.level done.0) in (
+    subst (λ (b : StepBasis). HaveMadeStep b c.args.given.level xs c.open_step.new.lots u) c.phase_of.ensures.basis (subst (λ n. HaveMadeStep c.phase_of.result.basis.now n xs c.open_step.new.lots u) c.phase_of.ensures.level done.0) in (
       xs,
       c.in-Ok.ensures.opened.1,
       done.1,

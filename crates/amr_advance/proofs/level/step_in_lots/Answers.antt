@@ -6,7 +6,7 @@ use Rattle.std.proofs.lemmas.Result.{on_err_weaker, on_ok_weaker}
 use Rattle.amr_ghost.specs.Frames.{old_masses}
 use Rattle.amr_lots.specs.declared.lot.Lot.{Lot}
 use Rattle.amr_lots.specs.Runs.{run}
-use Rattle.amr_advance.specs.Handing.{AreHanded, AreLent}
+use Rattle.amr_advance.specs.Handed.{AreHanded, AreLent}
 use Rattle.amr_advance.proofs.InLots.{IsInStep, in_step}
 use Rattle.amr_advance.proofs.LotsHanded.{all_handed, all_lent}
 use Rattle.amr_advance.proofs.SteppedLots.{edges_same, lists_back, now_made, patches_back, patches_same}

@@ -2,7 +2,7 @@ use Rattle.std.proofs.Common.{get_or, sym, subst, arith}
 use Rattle.std.specs.Box.{with_value}
 use Rattle.std.specs.Global.{Box}
 use Rattle.amr_lots.specs.declared.lot.Lot.{Lot}
-use Rattle.amr_lots.specs.Serving.{IsServed, MayServe}
+use Rattle.amr_lots.specs.Duties.{IsServed, MayServe}
 use Rattle.amr_lots.proofs.InPlaces.{all_changed, none_changed, one_more_changed}
 use Rattle.amr_advance.proofs.phases.serve_alone.Goals as goal
 

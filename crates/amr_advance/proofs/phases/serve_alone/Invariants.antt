@@ -1,5 +1,5 @@
 use Rattle.amr_lots.proofs.InPlaces.{AreChangedTo}
-use Rattle.amr_lots.specs.Serving.{IsServed}
+use Rattle.amr_lots.specs.Duties.{IsServed}
 use Rattle.amr_advance.proofs.phases.serve_alone.Given as goal
 
 -- the lots before this one are served

@@ -4,7 +4,7 @@ use Rattle.std.specs.List.{All, AllZip}
 use Rattle.std.specs.Vec.{with_items}
 use Rattle.std.proofs.lemmas.List.Elements.{length_all_zip}
 use Rattle.amr_lots.specs.declared.lot.Lot.{Lot}
-use Rattle.amr_lots.specs.Serving.{IsServed, MayServe}
+use Rattle.amr_lots.specs.Duties.{IsServed, MayServe}
 use Rattle.amr_advance.proofs.LotCounts.{fewer_tasks}
 use Rattle.amr_advance.proofs.LotsHanded.{when_lent}
 use Rattle.amr_advance.proofs.ServedPieces.{all_served, may_be_served}

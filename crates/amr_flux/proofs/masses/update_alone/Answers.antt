@@ -1,6 +1,6 @@
 use Rattle.std.proofs.Common.{◌^◌, ℤ, pos, ◌+ℤ◌, ◌≤ℤ◌, ◌<ℤ◌, sym, ap, subst, ◌∙◌, arith}
 use Rattle.amr_patch.specs.Patches.{mass_in}
-use Rattle.amr_flux.proofs.Alone.{alone, none_handed}
+use Rattle.amr_flux.proofs.Unmasked.{alone, none_handed}
 use Rattle.amr_flux.proofs.masses.update_alone.Goals as goal
 
 pub update_by-requires : goal.update_by-requires

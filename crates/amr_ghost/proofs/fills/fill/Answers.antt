@@ -2,7 +2,7 @@ use Rattle.std.proofs.Common.{◌≡◌, List, length, subst, arith}
 use Rattle.std.specs.List.{AllZip}
 use Rattle.std.proofs.lemmas.List.Elements.{All-same, length_all_zip}
 use Rattle.amr_patch.specs.Patches.{SameFluxes}
-use Rattle.amr_ghost.specs.Filling.{KeepsCells}
+use Rattle.amr_ghost.specs.GhostCells.{KeepsCells}
 use Rattle.amr_ghost.specs.Frames.{KeepsCorners, SameMasses}
 use Rattle.amr_ghost.specs.Messages.{HasFilled, IsFrameCopy}
 use Rattle.amr_ghost.specs.declared.parts.FrameCopy.{FrameCopy}

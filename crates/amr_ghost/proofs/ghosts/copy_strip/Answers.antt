@@ -4,7 +4,7 @@ use Rattle.amr_patch.specs.declared.patches.Patch.{Patch}
 use Rattle.amr_patch.specs.Places.{in_frame}
 use Rattle.amr_patch.specs.Patches.{box}
 use Rattle.amr_ghost.specs.Strips.{step}
-use Rattle.amr_ghost.specs.Filling.{KeepsCells, KeepsGhosts}
+use Rattle.amr_ghost.specs.GhostCells.{KeepsCells, KeepsGhosts}
 use Rattle.amr_ghost.proofs.Zips.{keeps_refl, zip_refl}
 use Rattle.amr_ghost.proofs.Steps.{ghosts_refl}
 use Rattle.amr_ghost.proofs.SetGhosts.{back_set, copied, front_set, in_back, in_front}

@@ -1,7 +1,7 @@
 use Rattle.std.proofs.Common.{arith}
 use Rattle.std.specs.List.{AllZip}
 use Rattle.std.proofs.lemmas.List.Elements.{All-same}
-use Rattle.amr_ghost.specs.Filling.{KeepsCells}
+use Rattle.amr_ghost.specs.GhostCells.{KeepsCells}
 use Rattle.amr_ghost.specs.Outer.{HasOuterGiven, IsSpanBeside}
 use Rattle.amr_ghost.proofs.Zips.{keeps_trans, zip_ghosts, zip_trans}
 use Rattle.amr_ghost.proofs.Copies.{all_still_set}

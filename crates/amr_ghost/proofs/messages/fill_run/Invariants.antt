@@ -1,7 +1,7 @@
 use Rattle.std.proofs.Common.{ℕ, ◌<◌, Bool, slice_index_or}
 use Rattle.std.specs.List.{All, AllZip}
 use Rattle.amr_box.specs.declared.Cell.{Cell}
-use Rattle.amr_ghost.specs.Filling.{KeepsCells, KeepsGhosts}
+use Rattle.amr_ghost.specs.GhostCells.{KeepsCells, KeepsGhosts}
 use Rattle.amr_ghost.specs.Outer.{AreOuterFor, HasOuter}
 use Rattle.amr_ghost.specs.Messages.{HasCopy, IsCopyFor, IsMessageFor}
 use Rattle.amr_ghost.specs.declared.messages.Message.{Message}

@@ -1,6 +1,6 @@
 use Rattle.std.proofs.Common.{◌<◌, length, arith, refl}
 use Rattle.std.specs.List.{AllZip}
-use Rattle.amr_ghost.specs.Filling.{KeepsCells, KeepsGhosts}
+use Rattle.amr_ghost.specs.GhostCells.{KeepsCells, KeepsGhosts}
 use Rattle.amr_ghost.proofs.Zips.{keeps_refl, keeps_trans, zip_ghosts, zip_refl, zip_trans}
 use Rattle.amr_ghost.proofs.Steps.{ghosts_refl}
 use Rattle.amr_ghost.proofs.Copies.{copies_set, still_received}

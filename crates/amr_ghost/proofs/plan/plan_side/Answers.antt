@@ -3,7 +3,7 @@ use Rattle.amr_box.specs.Cells.{IsNear}
 use Rattle.amr_def.specs.Domain.{domain}
 use Rattle.amr_patch.specs.declared.patches.Patch.{Patch}
 use Rattle.amr_patch.specs.Patches.{box}
-use Rattle.amr_ghost.specs.Filling.{LiesInDomain, side_axis, side_count, size_along}
+use Rattle.amr_ghost.specs.GhostCells.{LiesInDomain, side_axis, side_count, size_along}
 use Rattle.amr_ghost.specs.Plans.{HaveStrip}
 use Rattle.amr_ghost.proofs.Levels.{few_along}
 use Rattle.amr_ghost.proofs.BoxSides.{box_lies, same_box, side_few, strip_of}

@@ -2,10 +2,10 @@ use Rattle.std.proofs.Common.{◌≡◌, sym, subst, ◌∙◌}
 use Rattle.amr_phase.specs.Plans.{planned_face}
 use Rattle.amr_board.specs.BoardOf.{view}
 use Rattle.amr_lots.specs.declared.lot.Lot.{Lot}
-use Rattle.amr_lots.specs.declared.lot.Stage.TheVariants.{Finished, Raw, Swept}
+use Rattle.amr_lots.specs.declared.lot.LotStage.TheVariants.{Finished, Raw, Swept}
 use Rattle.amr_lots.specs.Looks.{HasLookedInVain}
-use Rattle.amr_lots.specs.Serving.{MaySend}
-use Rattle.amr_lots.specs.Stepping.{CanRead, CanStepBorder, HasFinishedLot, KeepsButSizes}
+use Rattle.amr_lots.specs.Duties.{MaySend}
+use Rattle.amr_lots.specs.LotSteps.{CanRead, CanStepBorder, HasFinishedLot, KeepsButSizes}
 use Rattle.amr_lots.specs.Works.{places_read}
 use Rattle.amr_lots.proofs.Reading.{all_stands, can_border, can_read, read_may, read_stands, still_may_send}
 use Rattle.amr_lots.proofs.border.finish.Goals as goal

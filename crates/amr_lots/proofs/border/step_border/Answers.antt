@@ -1,6 +1,6 @@
 use Rattle.std.proofs.Common.{◌+◌, ◌-◌, ◌∙◌, length, get_or, take, drop, refl, sym, ap, subst, arith}
 use Rattle.amr_layout.specs.declared.PatchLayout.{PatchLayout}
-use Rattle.amr_lots.specs.Stepping.{AreSizesAt, ReadsNone, ReadsSome}
+use Rattle.amr_lots.specs.LotSteps.{AreSizesAt, ReadsNone, ReadsSome}
 use Rattle.amr_lots.proofs.InPlaces.{none_changed}
 use Rattle.amr_lots.proofs.Places.{end_fits, end_is, end_most}
 use Rattle.amr_lots.proofs.Where.{IsSteppedWhere, all_where, may_here, next_where, sizes_here}

@@ -1,6 +1,6 @@
 use Rattle.std.proofs.Common.{◌≡◌, length, take}
 use Rattle.amr_flux.specs.Rooms.{widest}
-use Rattle.amr_lots.specs.Stepping.{ReadsNone, ReadsSome}
+use Rattle.amr_lots.specs.LotSteps.{ReadsNone, ReadsSome}
 use Rattle.amr_lots.specs.Works.{places_read}
 use Rattle.amr_lots.proofs.InPlaces.{AreChangedTo}
 use Rattle.amr_lots.proofs.Where.{IsSteppedWhere}

@@ -8,7 +8,7 @@ use Rattle.amr_patch.specs.declared.patches.Patch.{Patch}
 use Rattle.amr_patch.specs.Patches.{box, mass_in, masses_in}
 use Rattle.amr_register.specs.declared.register.Register.{Register}
 use Rattle.amr_register.specs.Fields.{cells_in, entry_in}
-use Rattle.amr_lots.specs.Correcting.{IsCorrected, finer_in}
+use Rattle.amr_lots.specs.Corrections.{IsCorrected, finer_in}
 use Rattle.amr_lots.proofs.CorrectedPatches.{corrected}
 use Rattle.amr_lots.proofs.duties.correct_patch.Goals as goal
 

@@ -2,7 +2,7 @@ use Rattle.std.proofs.Common.{◌+◌, sym, subst, arith}
 use Rattle.amr_patch.specs.declared.patches.Patch.{Patch}
 use Rattle.amr_patch.specs.Patches.{box, masses_in}
 use Rattle.amr_register.specs.Fields.{IsBoxAt, entry_in}
-use Rattle.amr_lots.specs.Correcting.{IsCorrected, finer_in, register_in}
+use Rattle.amr_lots.specs.Corrections.{IsCorrected, finer_in, register_in}
 use Rattle.amr_lots.proofs.InPlaces.{all_changed, one_more_changed}
 use Rattle.amr_lots.proofs.duties.correct_patches.Goals as goal
 

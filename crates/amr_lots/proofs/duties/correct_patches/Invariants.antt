@@ -1,6 +1,6 @@
 use Rattle.amr_patch.specs.Patches.{masses_in}
 use Rattle.amr_register.specs.Fields.{entry_in}
-use Rattle.amr_lots.specs.Correcting.{IsCorrected, finer_in, register_in}
+use Rattle.amr_lots.specs.Corrections.{IsCorrected, finer_in, register_in}
 use Rattle.amr_lots.proofs.InPlaces.{AreChangedTo}
 use Rattle.amr_lots.proofs.duties.correct_patches.Given as goal
 

@@ -1,8 +1,8 @@
 use Rattle.std.proofs.Common.{sym, subst}
 use Rattle.amr_board.specs.Ended.{face_of}
 use Rattle.amr_lots.specs.declared.lot.Lot.{Lot}
-use Rattle.amr_lots.specs.Serving.{MaySend}
-use Rattle.amr_lots.specs.Stepping.{CanRead, CanStepBorder, HasFinishedLot, KeepsButSizes}
+use Rattle.amr_lots.specs.Duties.{MaySend}
+use Rattle.amr_lots.specs.LotSteps.{CanRead, CanStepBorder, HasFinishedLot, KeepsButSizes}
 use Rattle.amr_lots.proofs.Reading.{all_stands, can_border, can_read, not_finished, still_may_send}
 use Rattle.amr_lots.proofs.finished.complete.Goals as goal
 

@@ -1,7 +1,7 @@
 use Rattle.std.proofs.Common.{◌≡◌, ◌+◌, ◌-◌, ◌∙◌, length, take, drop, refl, ap, arith}
 use Rattle.amr_board.specs.Ended.{face_of}
 use Rattle.amr_layout.specs.declared.PatchLayout.{PatchLayout}
-use Rattle.amr_lots.specs.Stepping.{IsReadable}
+use Rattle.amr_lots.specs.LotSteps.{IsReadable}
 use Rattle.amr_lots.specs.Works.{places_read}
 use Rattle.amr_lots.proofs.Flat.{flat_whole}
 use Rattle.amr_lots.proofs.Places.{count_next, end_fits, end_is, end_most, part_all, part_room, read_next}

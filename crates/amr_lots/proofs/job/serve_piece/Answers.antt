@@ -1,6 +1,6 @@
 use Rattle.std.proofs.Common.{refl, sym, subst}
 use Rattle.amr_lots.specs.declared.lot.Lot.{Lot}
-use Rattle.amr_lots.specs.Serving.{IsServed, MayServe}
+use Rattle.amr_lots.specs.Duties.{IsServed, MayServe}
 use Rattle.amr_lots.proofs.job.serve_piece.Goals as goal
 
 pub serve-requires : goal.serve-requires

@@ -4,7 +4,7 @@ use Rattle.amr_phase.specs.Plans.{adds_of, puts_of}
 use Rattle.amr_board.specs.Posts.{HasPosted}
 use Rattle.amr_board.specs.Views.{current}
 use Rattle.amr_layout.specs.declared.PatchLayout.{PatchLayout}
-use Rattle.amr_lots.specs.Stepping.{AreAdds, ArePuts}
+use Rattle.amr_lots.specs.LotSteps.{AreAdds, ArePuts}
 use Rattle.amr_lots.specs.Works.{puts_listed}
 use Rattle.amr_lots.proofs.Posting.{holds_on, posted_on, same_task, so_many_adds}
 use Rattle.amr_lots.proofs.Posts.{held_fresh, puts_count}

@@ -10,7 +10,7 @@ use Rattle.amr_board.specs.Posts.{HasPosted}
 use Rattle.amr_board.specs.Views.{current}
 use Rattle.amr_board.proofs.Posts.{posted_none}
 use Rattle.amr_layout.specs.declared.PutAt.{PutAt}
-use Rattle.amr_lots.specs.Stepping.{PutsAreNext}
+use Rattle.amr_lots.specs.LotSteps.{PutsAreNext}
 use Rattle.amr_lots.specs.Works.{puts_listed}
 use Rattle.amr_lots.proofs.Posting.{holds_on, posted_on, same_task, so_many_puts}
 use Rattle.amr_lots.proofs.Posts.{edges_here, held_fresh, next_here, puts_all, puts_more}

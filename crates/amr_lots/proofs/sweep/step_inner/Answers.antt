@@ -1,5 +1,5 @@
 use Rattle.std.proofs.Common.{◌∙◌, refl, subst, sym, arith}
-use Rattle.amr_lots.specs.Stepping.{ReadsNone, ReadsSome}
+use Rattle.amr_lots.specs.LotSteps.{ReadsNone, ReadsSome}
 use Rattle.amr_lots.proofs.InPlaces.{none_changed}
 use Rattle.amr_lots.proofs.Where.{IsSteppedWhere, all_where, may_here, next_where}
 use Rattle.amr_lots.proofs.sweep.step_inner.Goals as goal

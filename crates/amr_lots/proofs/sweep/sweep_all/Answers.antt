@@ -7,7 +7,7 @@ use Rattle.amr_lots.specs.declared.lot.Workspace.{Workspace}
 use Rattle.amr_layout.specs.LevelFlowLists.{flow_lists}
 use Rattle.amr_lots.specs.Lots.{AreReady}
 use Rattle.amr_lots.specs.Ready.{HasFlowsIn}
-use Rattle.amr_lots.specs.Stepping.{AreSweptOn}
+use Rattle.amr_lots.specs.LotSteps.{AreSweptOn}
 use Rattle.amr_lots.proofs.Filled.{flows_now, given_items, has_begun, ready_now}
 use Rattle.amr_lots.proofs.sweep.sweep_all.Goals as goal
 

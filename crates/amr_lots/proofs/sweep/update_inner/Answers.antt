@@ -1,5 +1,5 @@
 use Rattle.std.proofs.Common.{sym}
-use Rattle.amr_lots.specs.Stepping.{ReadsNone, ReadsSome}
+use Rattle.amr_lots.specs.LotSteps.{ReadsNone, ReadsSome}
 use Rattle.amr_lots.proofs.LotParts.{may_lent, stepped_lot}
 use Rattle.amr_lots.proofs.sweep.update_inner.Goals as goal
 

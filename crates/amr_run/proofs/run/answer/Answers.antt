@@ -2,7 +2,7 @@ use Rattle.std.proofs.Common.{refl, sym, subst, ℕ, IfSome, Option, Some, None,
 use Rattle.amr_causes.proofs.ByteLaws.{grows_none, were_left}
 use Rattle.amr_cli.specs.declared.command.Command.{Command}
 use Rattle.amr_run.specs.Outcome.{EndsAtSource, RepliesBy, RepliesTo, StopsBy, StopsTo, status_of}
-use Rattle.amr_run.specs.Reading.{TakesAtMost}
+use Rattle.amr_run.specs.Sources.{TakesAtMost}
 use Rattle.amr_run.specs.Table.{OpensStore, batch_row, check_row, meaning, run_meaning, run_row, show_row, trial_row, view_row}
 use Rattle.amr_run.specs.declared.status.Status.{Status}
 use Rattle.amr_run.proofs.Causes.{causes_of}

@@ -4,7 +4,7 @@ use Rattle.amr_causes.proofs.ByteLaws.{grows_none, were_left}
 use Rattle.amr_cli.specs.declared.command.Command.{Command}
 use Rattle.amr_cli.specs.Words.{command_of}
 use Rattle.amr_run.specs.Outcome.{Outcome, StopsTo}
-use Rattle.amr_run.specs.Reading.{TakesAtMost}
+use Rattle.amr_run.specs.Sources.{TakesAtMost}
 use Rattle.amr_run.specs.Table.{OpensStore, meaning}
 use Rattle.amr_run.specs.declared.status.Status.TheVariants.{Done, NoMemory, Usage}
 use Rattle.amr_run.proofs.Causes.{no_causes}

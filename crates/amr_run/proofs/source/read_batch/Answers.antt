@@ -1,5 +1,5 @@
 use Rattle.std.proofs.Common.{ap, inl, refl, subst, sym, Err}
-use Rattle.amr_run.specs.Reading.{RefusesBy}
+use Rattle.amr_run.specs.Sources.{RefusesBy}
 use Rattle.amr_run.specs.Table.{JudgesBatch}
 use Rattle.amr_run.specs.declared.status.Status.{Status}
 use Rattle.amr_run.specs.declared.status.Status.TheVariants.{BadBatch}

@@ -1,7 +1,7 @@
 use Rattle.std.proofs.Common.{ap, Err}
 use Rattle.amr_problem.proofs.PlainLaws.{too_many_bytes}
 use Rattle.amr_problem.specs.declared.fault.ProblemFault.TheVariants.{TooLong}
-use Rattle.amr_run.specs.Reading.{IsProblemRead}
+use Rattle.amr_run.specs.Sources.{IsProblemRead}
 use Rattle.amr_run.specs.Table.{JudgesProblem}
 use Rattle.amr_run.specs.declared.status.Status.TheVariants.{Problem}
 use Rattle.amr_run.proofs.Outcomes.{reading_refused, reads_refused}

@@ -2,8 +2,8 @@ use Rattle.std.proofs.Common.{◌∙◌, subst, drop, Option}
 use Rattle.std.proofs.lemmas.Result.{IfOk-weaker}
 use Rattle.amr_store.proofs.PartsRead.{more_tests, first_test}
 use Rattle.amr_store.specs.declared.part.Part.TheVariants.{Head}
-use Rattle.amr_store.specs.declared.reading.Head.{Head as HeadRead}
-use Rattle.amr_store.specs.Reading.{IsHeadOf, head_test, text_tests}
+use Rattle.amr_store.specs.declared.fields.Head.{Head as HeadRead}
+use Rattle.amr_store.specs.Fields.{IsHeadOf, head_test, text_tests}
 use Rattle.amr_store.proofs.Readings.{reads_on}
 use Rattle.amr_store.proofs.check.check.Goals as goal
 

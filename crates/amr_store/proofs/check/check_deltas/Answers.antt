@@ -5,7 +5,7 @@ use Rattle.amr_store.proofs.PartsRead.{more_tests, first_test, next_test}
 use Rattle.amr_store.proofs.Readings.{reads_on}
 use Rattle.amr_store.specs.declared.part.Part.TheVariants.{Deltas, Size}
 use Rattle.amr_store.specs.Layout.{size_of}
-use Rattle.amr_store.specs.Reading.{AreDeltas}
+use Rattle.amr_store.specs.Fields.{AreDeltas}
 use Rattle.amr_store.specs.Stored.{has_bad_deltas, slot_tests}
 use Rattle.amr_store.proofs.check.check_deltas.Goals as goal
 

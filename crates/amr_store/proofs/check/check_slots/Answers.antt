@@ -2,7 +2,7 @@ use Rattle.std.proofs.Common.{◌∙◌, ap, sym, refl, subst, drop, List, Optio
 use Rattle.amr_store.proofs.PartsRead.{read_behind, slot_broken, slots_tied, slots_stray, slots_whole}
 use Rattle.amr_store.specs.declared.check.SlotsFound.{SlotsFound}
 use Rattle.amr_store.specs.declared.check.SlotsFound.TheVariants.{Sound, Broken}
-use Rattle.amr_store.specs.Checking.{HasAll}
+use Rattle.amr_store.specs.Checks.{HasAll}
 use Rattle.amr_store.specs.declared.slot.Slot.{Slot as Known}
 use Rattle.amr_store.specs.Table.{slot_count, is_tied, IsFirstStray}
 use Rattle.amr_store.proofs.check.check_slots.Goals as goal

@@ -4,7 +4,7 @@ use Rattle.std.proofs.lemmas.Result.{IfOk-weaker}
 use Rattle.amr_store.proofs.PartsRead.{more_tests, first_test}
 use Rattle.amr_store.specs.declared.part.Part.TheVariants.{Text}
 use Rattle.amr_store.specs.Layout.{text_length}
-use Rattle.amr_store.specs.Reading.{deltas_tests}
+use Rattle.amr_store.specs.Fields.{deltas_tests}
 use Rattle.amr_store.proofs.Readings.{reads_on}
 use Rattle.amr_store.proofs.check.check_text.Goals as goal
 

@@ -1,6 +1,6 @@
 use Rattle.std.proofs.Common.{sym, subst, drop, ℕ, Option}
 use Rattle.amr_store.proofs.PartsRead.{no_deltas, deltas_told}
-use Rattle.amr_store.specs.Reading.{AreDeltas}
+use Rattle.amr_store.specs.Fields.{AreDeltas}
 use Rattle.amr_store.proofs.check.read_deltas.Goals as goal
 
 pub returns-then-head-ne3-clause-told : goal.returns-then-head-ne3-clause-told

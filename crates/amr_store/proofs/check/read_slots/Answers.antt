@@ -1,12 +1,12 @@
 use Rattle.std.proofs.Common.{◌≡◌, ◌∙◌, ◌+◌, ◌∷◌, [], List, Option, ℕ, true, ap, drop, length, refl, sym, subst, arith, length-append}
 use Rattle.amr_store.proofs.PartsRead.{slots_cut, slots_more, slots_none}
 use Rattle.amr_store.proofs.Readings.{no_reads, reads_on}
-use Rattle.amr_store.specs.declared.reading.SlotFound.{SlotFound}
-use Rattle.amr_store.specs.declared.reading.SlotFound.TheVariants.{Sound}
+use Rattle.amr_store.specs.declared.fields.SlotFound.{SlotFound}
+use Rattle.amr_store.specs.declared.fields.SlotFound.TheVariants.{Sound}
 use Rattle.amr_store.specs.declared.slot.Slot.{Slot}
-use Rattle.amr_store.specs.Checking.{SlotsRead}
+use Rattle.amr_store.specs.Checks.{SlotsRead}
 use Rattle.amr_store.specs.Layout.{lead_length}
-use Rattle.amr_store.specs.Reading.{IsSlot}
+use Rattle.amr_store.specs.Fields.{IsSlot}
 use Rattle.amr_store.specs.Stored.{is_broken}
 use Rattle.amr_store.specs.Table.{slot_count}
 use Rattle.amr_store.proofs.check.read_slots.Goals as goal

@@ -1,5 +1,5 @@
 use Rattle.std.proofs.Common.{◌≡◌, length, drop}
-use Rattle.amr_store.specs.Checking.{SlotsRead}
+use Rattle.amr_store.specs.Checks.{SlotsRead}
 use Rattle.amr_store.specs.Layout.{lead_length}
 use Rattle.amr_store.specs.Phases.{OnlyReads, Told}
 use Rattle.amr_store.proofs.check.read_slots.Given as goal

@@ -2,8 +2,8 @@ use Rattle.std.proofs.Common.{◌∙◌, true}
 use Rattle.amr_store.proofs.Openings.{outer_damaged}
 use Rattle.std.proofs.lemmas.Result.{IfOk-weaker}
 use Rattle.amr_store.specs.declared.check.Checked.TheVariants.{Whole, Faulty}
-use Rattle.amr_store.specs.Checking.{Checks}
-use Rattle.amr_store.specs.Reading.{magic_in}
+use Rattle.amr_store.specs.Checks.{Checks}
+use Rattle.amr_store.specs.Fields.{magic_in}
 use Rattle.amr_store.specs.Stored.{tests}
 use Rattle.amr_store.proofs.Readings.{reads_on}
 use Rattle.amr_store.proofs.open.open_held.Goals as goal

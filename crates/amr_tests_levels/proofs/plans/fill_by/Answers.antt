@@ -11,7 +11,7 @@ use Rattle.amr_ghost.specs.declared.parts.FrameCopy.{FrameCopy}
 use Rattle.amr_ghost.specs.declared.sources.Span.{Span}
 use Rattle.amr_ghost.proofs.PartLaws.{copies_received, copies_taken, outer_beside, outer_spans, plan_small}
 use Rattle.amr_ghost.proofs.Zips.{keeps_refl, zip_refl}
-use Rattle.amr_ghost.specs.Filling.{KeepsCells}
+use Rattle.amr_ghost.specs.GhostCells.{KeepsCells}
 use Rattle.amr_tests_levels.proofs.plans.fill_by.Goals as goal
 
 pub part_frames-requires-clause-enough : goal.part_frames-requires-clause-enough

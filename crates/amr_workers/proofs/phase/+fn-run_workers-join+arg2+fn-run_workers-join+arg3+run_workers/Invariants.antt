@@ -8,4 +8,4 @@ abbrev pub decreases-join+arg3 : goal.decreases-join+arg3
 decreases-join+arg3 g l = 2 * l.more.workers + 1
 
 abbrev pub decreases-run_workers : goal.decreases-run_workers
-decreases-run_workers g l = 2 * l.crew.workers
+decreases-run_workers g l = 2 * l.range.workers

@@ -1,7 +1,7 @@
 use Rattle.std.proofs.Common.{◌≡◌, [], sym, ap, ◌∙◌, subst, arith}
 use Rattle.atomic_table.specs.Table.{Allows, Me}
-use Rattle.amr_mailbox.specs.declared.letter.Letter.{Letter}
-use Rattle.amr_mailbox.specs.declared.letter.Letter.TheVariants.{Empty, Answer}
+use Rattle.amr_mailbox.specs.declared.mail.Mail.{Mail}
+use Rattle.amr_mailbox.specs.declared.mail.Mail.TheVariants.{Empty, Answer}
 use Rattle.amr_mailbox.specs.declared.view.Role.TheVariants.{Works}
 use Rattle.amr_mailbox.specs.declared.view.Turn.TheVariants.{Free, Busy}
 use Rattle.amr_mailbox.specs.declared.view.View.{View}
@@ -24,6 +24,6 @@ store-requires g c =
       e.0 ∙ k.table,
       (let n = c.self.invariant.0 in omega arith),
       subst
-          (λ (m : Me (Letter g.row.O.Denot g.row.A.Denot) (View g.row.O.Denot g.row.K.Denot)). Allows (Rule g.E.Errand.may g.E.Errand.serves shared.key) shared.table_id.slots c.exchange.new.seat.id m 0 (λ _. 0) (λ _ w. w ≡ (view_of m.0.key Works Free, [])))
+          (λ (m : Me (Mail g.row.O.Denot g.row.A.Denot) (View g.row.O.Denot g.row.K.Denot)). Allows (Rule g.E.Errand.may g.E.Errand.serves shared.key) shared.table_id.slots c.exchange.new.seat.id m 0 (λ _. 0) (λ _ w. w ≡ (view_of m.0.key Works Free, [])))
           (sym now) (answers g.E.Errand.may g.E.Errand.serves shared.key order c.args.answer served shared.table_id.slots c.exchange.new.seat.id),
     )

@@ -1,6 +1,6 @@
 use Rattle.std.proofs.Common.{◌≡◌, sym, ap, ◌∙◌, subst, arith}
 use Rattle.atomic_table.specs.Table.{Allows, Me}
-use Rattle.amr_mailbox.specs.declared.letter.Letter.{Letter}
+use Rattle.amr_mailbox.specs.declared.mail.Mail.{Mail}
 use Rattle.amr_mailbox.specs.declared.view.Role.TheVariants.{Asks}
 use Rattle.amr_mailbox.specs.declared.view.Turn.TheVariants.{Free, Over}
 use Rattle.amr_mailbox.specs.declared.view.View.{View}
@@ -19,6 +19,6 @@ store-requires g c =
       k.table,
       (let n = c.self.invariant.0 in omega arith),
       subst
-          (λ (m : Me (Letter g.row.O.Denot g.row.A.Denot) (View g.row.O.Denot g.row.K.Denot)). Allows (Rule g.E.Errand.may g.E.Errand.serves shared.key) shared.table_id.slots seat.id m 0 (λ _. 2) (λ _ w. w ≡ (view_of m.0.key Asks Over, m.1)))
+          (λ (m : Me (Mail g.row.O.Denot g.row.A.Denot) (View g.row.O.Denot g.row.K.Denot)). Allows (Rule g.E.Errand.may g.E.Errand.serves shared.key) shared.table_id.slots seat.id m 0 (λ _. 2) (λ _ w. w ≡ (view_of m.0.key Asks Over, m.1)))
           (sym k.me) (dismisses g.E.Errand.may g.E.Errand.serves shared.key shared.table_id.slots seat.id),
     )

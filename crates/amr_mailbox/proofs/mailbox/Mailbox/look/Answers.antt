@@ -1,8 +1,8 @@
 use Rattle.std.proofs.Common.{sym, ap, ◌∙◌, subst, arith}
 use mathlib.Core.Option as lookup
 use Rattle.atomic_table.specs.Table.{Allows, Me, step}
-use Rattle.amr_mailbox.specs.declared.letter.Letter.{Letter}
-use Rattle.amr_mailbox.specs.declared.letter.Letter.TheVariants.{Order}
+use Rattle.amr_mailbox.specs.declared.mail.Mail.{Mail}
+use Rattle.amr_mailbox.specs.declared.mail.Mail.TheVariants.{Order}
 use Rattle.amr_mailbox.specs.declared.view.Turn.TheVariants.{Free}
 use Rattle.amr_mailbox.specs.declared.view.View.{View}
 use Rattle.amr_mailbox.specs.MailboxOf.{MailboxOf, end_of}
@@ -20,7 +20,7 @@ compare_exchange-requires g c =
       k.table,
       (let n = c.self.invariant.0 in omega arith),
       subst
-          (λ (m : Me (Letter g.row.O.Denot g.row.A.Denot) (View g.row.O.Denot g.row.K.Denot)). Allows (Rule g.E.Errand.may g.E.Errand.serves shared.key) shared.table_id.slots seat.id m 0 (exchanges 1 3) (λ n w. Looks g.E.Errand.may (step {S = Letter g.row.O.Denot g.row.A.Denot} 1 0 0 0 lookup.none) m n w))
+          (λ (m : Me (Mail g.row.O.Denot g.row.A.Denot) (View g.row.O.Denot g.row.K.Denot)). Allows (Rule g.E.Errand.may g.E.Errand.serves shared.key) shared.table_id.slots seat.id m 0 (exchanges 1 3) (λ n w. Looks g.E.Errand.may (step {S = Mail g.row.O.Denot g.row.A.Denot} 1 0 0 0 lookup.none) m n w))
           (sym k.me) (looks g.E.Errand.may g.E.Errand.serves shared.key shared.table_id.slots seat.id),
     )
 

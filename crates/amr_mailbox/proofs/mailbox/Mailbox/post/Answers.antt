@@ -1,7 +1,7 @@
 use Rattle.std.proofs.Common.{◌≡◌, [], sym, ap, ◌∙◌, subst, arith}
 use Rattle.atomic_table.specs.Table.{Allows, Me}
-use Rattle.amr_mailbox.specs.declared.letter.Letter.{Letter}
-use Rattle.amr_mailbox.specs.declared.letter.Letter.TheVariants.{Empty, Order}
+use Rattle.amr_mailbox.specs.declared.mail.Mail.{Mail}
+use Rattle.amr_mailbox.specs.declared.mail.Mail.TheVariants.{Empty, Order}
 use Rattle.amr_mailbox.specs.declared.view.Role.TheVariants.{Asks}
 use Rattle.amr_mailbox.specs.declared.view.Turn.TheVariants.{Free, Busy}
 use Rattle.amr_mailbox.specs.declared.view.View.{View}
@@ -23,6 +23,6 @@ store-requires g c =
       e.0 ∙ k.table,
       (let n = c.self.invariant.0 in omega arith),
       subst
-          (λ (m : Me (Letter g.row.O.Denot g.row.A.Denot) (View g.row.O.Denot g.row.K.Denot)). Allows (Rule g.E.Errand.may g.E.Errand.serves shared.key) shared.table_id.slots c.exchange.new.seat.id m 0 (λ _. 1) (λ _ w. (x : g.row.O.Denot) → m.1 ≡ holding (Order x) → w ≡ (view_of m.0.key Asks (Busy x), [])))
+          (λ (m : Me (Mail g.row.O.Denot g.row.A.Denot) (View g.row.O.Denot g.row.K.Denot)). Allows (Rule g.E.Errand.may g.E.Errand.serves shared.key) shared.table_id.slots c.exchange.new.seat.id m 0 (λ _. 1) (λ _ w. (x : g.row.O.Denot) → m.1 ≡ holding (Order x) → w ≡ (view_of m.0.key Asks (Busy x), [])))
           (sym now) (posts g.E.Errand.may g.E.Errand.serves shared.key c.args.order may shared.table_id.slots c.exchange.new.seat.id),
     )

@@ -7,8 +7,8 @@ use Rattle.amr_store.specs.declared.check.Checked.{Checked}
 use Rattle.amr_store.specs.declared.check.Checked.TheVariants.{Whole, Faulty}
 use Rattle.amr_store.specs.declared.check.SlotsFound.{SlotsFound}
 use Rattle.amr_store.specs.declared.check.SlotsFound.TheVariants.{Sound, Broken}
-use Rattle.amr_store.specs.declared.reading.Head.{Head}
-use Rattle.amr_store.specs.Reading.{SaysHead, magic_in}
+use Rattle.amr_store.specs.declared.fields.Head.{Head}
+use Rattle.amr_store.specs.Fields.{SaysHead, magic_in}
 use Rattle.amr_store.specs.Layout.{gate_at, text_length}
 use Rattle.amr_store.specs.Stored.{slot_of, entry_at, is_broken, deltas_of, slots_of, first_found, tests, is_empty, is_renewed, end_in}
 use Rattle.amr_store.specs.Table.{table, slot_count, AreSound, IsNumbered}

@@ -2,7 +2,7 @@
 
 /// What the slot of a mailbox holds.
 #[derive(Drop)]
-pub enum Letter<O, A> {
+pub enum Mail<O, A> {
     Empty,
     Order(O),
     Answer(A),

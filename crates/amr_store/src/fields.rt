@@ -4,7 +4,7 @@ ghost use Rattle.amr_causes.specs.Causes.{HasCause};
 ghost use Rattle.amr_store.specs.Layout.{long_at, word_at};
 ghost use Rattle.amr_store.specs.Phases.{OnlyReads, Told};
 ghost use Rattle.amr_store.specs.Stored.{front_in};
-ghost use Rattle.amr_store.specs.Reading.{IsHeadOf, IsSlot, IsWithin, version_read, head_read, front_read, slot_read};
+ghost use Rattle.amr_store.specs.Fields.{IsHeadOf, IsSlot, IsWithin, version_read, head_read, front_read, slot_read};
 
 use crate::create::{MAGIC_1, MAGIC_2, MAGIC_3};
 use crate::device::{has_byte_from, read_from};

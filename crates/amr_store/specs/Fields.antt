@@ -4,9 +4,9 @@ use Rattle.std.specs.Prelude.{◌∷◌, length, slice_index, slice_range, Optio
 use Rattle.amr_store.specs.declared.part.Part.{Part}
 use Rattle.amr_store.specs.declared.part.Part.TheVariants.{Text, Deltas, Size}
 use Rattle.amr_store.specs.declared.slot.Slot.{Slot as Entered}
-use Rattle.amr_store.specs.declared.reading.SlotFound.{SlotFound}
-use Rattle.amr_store.specs.declared.reading.SlotFound.TheVariants.{Sound, Broken}
-use Rattle.amr_store.specs.declared.reading.Head.{Head}
+use Rattle.amr_store.specs.declared.fields.SlotFound.{SlotFound}
+use Rattle.amr_store.specs.declared.fields.SlotFound.TheVariants.{Sound, Broken}
+use Rattle.amr_store.specs.declared.fields.Head.{Head}
 use Rattle.amr_store.specs.Layout.{open_gate, magic_1, magic_2, magic_3, version_by, long_at, word_at, size_of, text_length}
 use Rattle.amr_store.specs.Stored.{has_magic_1, has_magic_2, has_magic_3, has_bad_deltas, deltas_of, is_open}
 use Rattle.amr_store.specs.Stored.{is_broken, entry_at, front_in, slot_of, slot_tests}

@@ -1,8 +1,8 @@
 use Rattle.std.proofs.Common.{sym, subst, drop, Option}
 use Rattle.amr_store.proofs.PartsRead.{head_told}
-use Rattle.amr_store.specs.declared.reading.Head.{Head}
-use Rattle.amr_store.specs.Reading.{IsHeadOf}
-use Rattle.amr_store.proofs.reading.read_head.Goals as goal
+use Rattle.amr_store.specs.declared.fields.Head.{Head}
+use Rattle.amr_store.specs.Fields.{IsHeadOf}
+use Rattle.amr_store.proofs.fields.read_head.Goals as goal
 
 pub returns-clause-told : goal.returns-clause-told
 returns-clause-told g c s is =

@@ -21,9 +21,9 @@ use Rattle.amr_register.specs.declared.edges.EdgeCell.{EdgeCell}
 use Rattle.amr_register.specs.EdgeCells.{HaveNets, IsSmallNet, lists_of}
 use Rattle.amr_lots.specs.declared.lot.Lot.{Lot}
 use Rattle.amr_lots.specs.declared.lot.Workspace.{Workspace}
-use Rattle.amr_lots.specs.Filling.{AreFilled, HasFoundOuter}
+use Rattle.amr_lots.specs.FrameValues.{AreFilled, HasFoundOuter}
 use Rattle.amr_lots.specs.Lots.{HasStepped, IsSweptOn, MayStep, lot_total}
-use Rattle.amr_lots.specs.Serving.{HasSent}
+use Rattle.amr_lots.specs.Duties.{HasSent}
 use Rattle.amr_lots.specs.Works.{places_read, put_by, puts_by}
 
 -- ---- frames filled, and what follows by them

@@ -7,7 +7,7 @@ use Rattle.amr_ghost.specs.Messages.{HasPacked, IsMessageFrom}
 use Rattle.amr_lots.specs.declared.lot.Duty.{Duty}
 use Rattle.amr_lots.specs.declared.lot.Duty.TheVariants.{Correct, Keep, Send, Step}
 use Rattle.amr_lots.specs.declared.lot.Lot.{Lot}
-use Rattle.amr_lots.specs.Correcting.{HasCorrected, MayCorrect}
+use Rattle.amr_lots.specs.Corrections.{HasCorrected, MayCorrect}
 use Rattle.amr_lots.specs.Runs.{with_before, with_outbox}
 
 -- its messages take masses of its patches

@@ -11,7 +11,7 @@ use Rattle.amr_decoder.specs.declared.faults.CodecFault.TheVariants.{NoMemory}
 use Rattle.amr_decoder.specs.Faults.{IsRefusalOf}
 use Rattle.amr_decoder.proofs.States.{all_bytes}
 use Rattle.amr_delta.proofs.Records.{refused_for_memory}
-use Rattle.amr_delta.proofs.decoding.decode_delta.Goals as goal
+use Rattle.amr_delta.proofs.recorded_state.decode_delta.Goals as goal
 
 pub returns-clause-bytes : goal.returns-clause-bytes
 returns-clause-bytes c =

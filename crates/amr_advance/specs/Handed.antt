@@ -7,7 +7,7 @@ use Rattle.amr_ghost.specs.declared.messages.Message.{Message}
 use Rattle.amr_register.specs.declared.edges.EdgeCell.{EdgeCell}
 use Rattle.amr_lots.specs.declared.lot.Lot.{Lot}
 use Rattle.amr_lots.specs.Runs.{KeepAllButEdges, KeepAllButMessages, KeepOthers, run}
-use Rattle.amr_lots.specs.Serving.{HasSent}
+use Rattle.amr_lots.specs.Duties.{HasSent}
 use Rattle.amr_advance.specs.declared.lots.Lots.{Lots}
 
 -- each lot was handed its run of the patches

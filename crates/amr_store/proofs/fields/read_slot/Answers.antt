@@ -1,9 +1,9 @@
 use Rattle.std.proofs.Common.{◌∙◌, sym, subst, drop}
 use Rattle.amr_store.proofs.PartsRead.{slot_begun, slot_cut, slot_whole}
-use Rattle.amr_store.specs.declared.reading.SlotFound.{SlotFound}
-use Rattle.amr_store.specs.Reading.{IsBegun}
+use Rattle.amr_store.specs.declared.fields.SlotFound.{SlotFound}
+use Rattle.amr_store.specs.Fields.{IsBegun}
 use Rattle.amr_store.proofs.Readings.{reads_on}
-use Rattle.amr_store.proofs.reading.read_slot.Goals as goal
+use Rattle.amr_store.proofs.fields.read_slot.Goals as goal
 
 pub returns-in-Ok-true-clause-told : goal.returns-in-Ok-true-clause-told
 returns-in-Ok-true-clause-told g c s is =

@@ -8,7 +8,7 @@ use Rattle.amr_payload.specs.Delta.{read_delta}
 use Rattle.amr_payload.specs.Payload.{older}
 use Rattle.amr_payload.specs.Tests.{read_state}
 use Rattle.amr_delta.proofs.Records.{sequence_bad, sequence_read}
-use Rattle.amr_delta.proofs.decoding.read_record.Goals as goal
+use Rattle.amr_delta.proofs.recorded_state.read_record.Goals as goal
 
 pub returns-in_err-sequence-clause-bad : goal.returns-in_err-sequence-clause-bad
 returns-in_err-sequence-clause-bad c =

@@ -10,7 +10,7 @@ use Rattle.amr_decoder.specs.Lefts.{left_of}
 use Rattle.amr_decoder.proofs.Readings.{fault_same}
 use Rattle.amr_decoder.proofs.States.{start_of}
 use Rattle.amr_delta.proofs.Records.{more_follows, whole_bad, whole_read}
-use Rattle.amr_delta.proofs.decoding.read_whole.Goals as goal
+use Rattle.amr_delta.proofs.recorded_state.read_whole.Goals as goal
 
 pub returns-in_err-mesh-clause-bad : goal.returns-in_err-mesh-clause-bad
 unfolding delta_decoded

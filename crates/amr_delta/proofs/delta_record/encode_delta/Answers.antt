@@ -4,7 +4,7 @@ use Rattle.amr_patch.specs.Meshes.{state_of}
 use Rattle.amr_payload.specs.Delta.{delta_bytes, delta_size}
 use Rattle.amr_payload.specs.Payload.{number_bytes, older, state_bytes}
 use Rattle.amr_payload.proofs.Room.{delta_fits}
-use Rattle.amr_delta.proofs.encoding.encode_delta.Goals as goal
+use Rattle.amr_delta.proofs.delta_record.encode_delta.Goals as goal
 
 pub returns-clause-bytes : goal.returns-clause-bytes
 unfolding delta_bytes

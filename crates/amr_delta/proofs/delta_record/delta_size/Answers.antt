@@ -1,7 +1,7 @@
 use Rattle.std.proofs.Common.{arith}
 use Rattle.amr_payload.specs.Delta.{delta_size}
 use Rattle.amr_delta.proofs.Sizes.{size_small}
-use Rattle.amr_delta.proofs.encoding.delta_size.Goals as goal
+use Rattle.amr_delta.proofs.delta_record.delta_size.Goals as goal
 
 pub returns-clause-value : goal.returns-clause-value
 unfolding delta_size
