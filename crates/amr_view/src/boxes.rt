@@ -109,7 +109,8 @@ fn put_rows<P: Pen>(p: &Problem, mesh: &Mesh, l: u32, b: &Bx, pen: &mut P) -> Re
     let mut spare = [0u32; ROOM];
     let low = b.lo().y;
     let width = b.width() as usize;
-    for row in 0..b.height() {
+    let height = b.height();
+    for row in 0..height {
         let y = low + row as i32;
         let from = find_row(p, mesh, l, b, y, &mut masses, &mut spare);
         put_line(&masses[from..from + width], pen)?;
