@@ -15,7 +15,7 @@ ghost use Rattle.amr_drive.specs.States.{states_after};
 
 use crate::after::AfterStep;
 use crate::nexts::{Run, make_next};
-use crate::teams::drive_by_team;
+use crate::teams::make_by;
 use amr_advance::{Crew, Workers};
 use amr_causes::NoMemory;
 use amr_cycle::Kept;
@@ -151,14 +151,9 @@ pub fn drive<R: Threads + Wait + Sync, G: Gate + Sync, A: AfterStep>(
         job: LevelWork { problem: p },
         target,
     };
-    if crew.workers > 1 {
-        return drive_by_team(rt, &run, crew.workers, gate, mesh, after);
-    }
-    let mut workers = Workers {
-        runtime: rt,
-        gate,
-        count: crew.workers,
-        team: None,
-    };
-    make_steps(&run, &mut workers, mesh, after)
+    let mut steps = |workers: &mut Workers<'_, R, G>| -> Result<(), DriveFault<A::Fault>>
+        requires { MayDrive A.ready run.job.problem.now run.target mesh.now after.now × ((tasks : ℕ) → MayRun G.admits run.job.problem.now tasks workers.now) }
+        ensures { HasDriven A.made run.job.problem.now run.target mesh.entry.now after.entry.now result mesh.exit.now after.exit.now }
+    { make_steps(&run, workers, mesh, after) };
+    make_by(rt, alloc, &run.job, crew.workers, gate, &mut steps)
 }

@@ -8,12 +8,15 @@ ghost use Rattle.amr_drive.specs.Lanes.{AtEach, HasGone, HasStepped, HaveGone, M
 
 use crate::lanes::{Lane, all_done, change_all};
 use crate::nexts::make_plain_step;
+use crate::teams::make_by;
 use amr_advance::Workers;
 use amr_causes::NoMemory;
 use amr_cycle::Kept;
 use amr_def::Problem;
+use amr_lots::LevelWork;
 use amr_patch::Mesh;
 use amr_workers::Gate;
+use std::alloc::Global;
 use std::sync::Wait;
 use std::thread::{Threads, for_each_mut};
 
@@ -38,6 +41,7 @@ fn make_plain_steps<R: Threads + Wait + Sync, G: Gate + Sync>(
 /// Makes the steps of a species up to step `end`, by its own workers.
 fn go_alone<R: Threads + Wait + Sync, G: Gate + Sync>(
     rt: &R,
+    alloc: Global,
     gate: &G,
     end: u32,
     lane: &mut Lane<'_>,
@@ -45,19 +49,17 @@ fn go_alone<R: Threads + Wait + Sync, G: Gate + Sync>(
     requires { MayGo G.admits gate.now end lane.old.mesh lane.old }
     ensures { lane.new.done ≡ true → HasGone end lane.old.mesh lane.old lane.new.mesh lane.new }
 {
-    let mut workers = Workers {
-        runtime: rt,
-        gate,
-        count: lane.workers,
-        team: None,
+    let job = LevelWork {
+        problem: lane.problem,
     };
-    let made = make_plain_steps(
-        &mut workers,
-        lane.problem,
-        &mut lane.mesh,
-        &mut lane.kept,
-        end,
-    );
+    let p = lane.problem;
+    let mesh = &mut lane.mesh;
+    let kept = &mut lane.kept;
+    let mut steps = |workers: &mut Workers<'_, R, G>| -> Result<(), NoMemory>
+        requires { MayStep p.now end mesh.now kept.now × ((tasks : ℕ) → MayRun G.admits p.now tasks workers.now) }
+        ensures { OnOk result (HasStepped p.entry.now end mesh.entry.now mesh.exit.now kept.exit.now) }
+    { make_plain_steps(workers, p, mesh, kept, end) };
+    let made = make_by(rt, alloc, &job, lane.workers, gate, &mut steps);
     match made {
         Ok(()) => lane.done = true,
         Err(_) => lane.done = false,
@@ -67,6 +69,7 @@ fn go_alone<R: Threads + Wait + Sync, G: Gate + Sync>(
 /// Makes the steps of all lanes up to step `end`, side by side in as many threads as there are workers, or in turn by one.
 fn go_side_by_side<R: Threads + Wait + Sync, G: Gate + Sync>(
     rt: &R,
+    alloc: Global,
     gate: &G,
     threads: u32,
     end: u32,
@@ -80,13 +83,14 @@ fn go_side_by_side<R: Threads + Wait + Sync, G: Gate + Sync>(
     let go = move |_: usize, lane: &mut Lane<'_>|
         requires { MayGo G.admits gate.now end lane.now.mesh lane.now }
         ensures { lane.exit.now.done ≡ true → HasGone end lane.entry.now.mesh lane.entry.now lane.exit.now.mesh lane.exit.now }
-    { go_alone(rt, gate, end, lane) };
+    { go_alone(rt, alloc, gate, end, lane) };
     for_each_mut(rt, lanes, threads as usize, &go);
 }
 
 /// Makes the steps of all species up to step `end`, with no regrid between them: side by side, each in its lane.
 pub(crate) fn go_to<R: Threads + Wait + Sync, G: Gate + Sync>(
     rt: &R,
+    alloc: Global,
     gate: &G,
     threads: u32,
     end: u32,
@@ -99,7 +103,7 @@ pub(crate) fn go_to<R: Threads + Wait + Sync, G: Gate + Sync>(
     ensures { OnOk result (HaveGone end meshes.old lanes.old meshes.new lanes.new) }
 {
     change_all(meshes, lanes);
-    go_side_by_side(rt, gate, threads, end, lanes);
+    go_side_by_side(rt, alloc, gate, threads, end, lanes);
     all_done(lanes)?;
     change_all(meshes, lanes);
     Ok(())
