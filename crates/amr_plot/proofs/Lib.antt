@@ -7,6 +7,6 @@ mod Meshes
 pub mod Pens
 mod PlotTexts
 pub mod Putting
-mod SheetTexts
+pub mod SheetTexts
 mod TextLaws
 pub mod Words

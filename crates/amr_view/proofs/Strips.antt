@@ -7,7 +7,7 @@ use Rattle.std.proofs.lemmas.Int.{ints}
 use Rattle.std.proofs.lemmas.Nat.{div_below}
 use Rattle.std.proofs.Math.Nat.{mul-le-mul_left, mul-le-mul_right}
 use Rattle.amr_box.specs.declared.Cell.{Cell}
-use Rattle.amr_box.specs.Cells.{Extent, HasCorners, IsNear, IsProper, cell, extent, half, holds, width}
+use Rattle.amr_box.specs.Cells.{Extent, HasCorners, IsNear, IsProper, cell, half, holds, width}
 use Rattle.amr_def.specs.declared.problem.Problem.{Problem}
 use Rattle.amr_def.specs.Domain.{domain, in_domain}
 use Rattle.amr_def.specs.Regrid.{child_share, odd, split_mass}
@@ -25,13 +25,19 @@ use Rattle.amr_view.specs.Rows.{AreFinest, AreLaid, IsStrip, cell_at}
 -- ---- parents
 
 module _ (l : ℕ) (row up : Extent) (strip : IsStrip (suc l) row) (corners : HasCorners up (half row.lo.x) (half row.lo.y) (half row.hi.x) (half row.hi.y)) where
+  parents_west : up.lo.x ≡ pos (strip.first * 2 ^ l)
+  parents_west = corners.west_is ∙ ap half (strip.west ∙ ap pos (twice_as_many strip.first l)) ∙ half-double (pos (strip.first * 2 ^ l))
+
+  parents_east : up.hi.x +ℤ pos 1 ≡ pos (strip.after * 2 ^ l)
+  parents_east = omega (arith, ints, corners.east_is, strip.east, twice_as_many strip.after l, half_and_odd row.hi.x, odd_small row.hi.x)
+
   -- the parents are those in the same columns of level 0
   pub strip_parents : IsStrip l up
   strip_parents = record {
     first = strip.first;
     after = strip.after;
-    west = corners.west_is ∙ ap half (strip.west ∙ ap pos (twice_as_many strip.first l)) ∙ half-double (pos (strip.first * 2 ^ l));
-    east = omega (arith, ints, corners.east_is, strip.east, twice_as_many strip.after l, half_and_odd row.hi.x, odd_small row.hi.x);
+    west = parents_west;
+    east = parents_east;
     flat = corners.north_is ∙ ap half strip.flat ∙ sym corners.south_is;
   }
 
@@ -41,8 +47,7 @@ module _ (l : ℕ) (row up : Extent) (strip : IsStrip (suc l) row) (corners : Ha
   -- there are half as many
   pub half_wide : IsNear row → IsNear up → width row ≡ 2 * width up
   half_wide near near_up =
-      let parents = strip_parents in
-      omega (arith, ints, (sides row near).wide, (sides up near_up).wide, strip.west, strip.east, parents.west, parents.east, twice_as_many strip.first l, twice_as_many strip.after l)
+      omega (arith, ints, (sides row near).wide, (sides up near_up).wide, strip.west, strip.east, parents_west, parents_east, twice_as_many strip.first l, twice_as_many strip.after l)
 
   -- the shares that a row of parents with their finest masses gives
   pub shares_are : (s : State) (parents shares : List ℕ) (y : ℕ) → AreFinest s l up parents → length shares ≡ 2 * length parents → y ≡ odd row.lo.y
@@ -99,44 +104,37 @@ columns_small p l b fine proper inside_domain =
     let last = in_domain-inside p l b.hi (inside_domain b.hi (is_inside b b.hi (record { west = proper.wide; east = omega (arith, ints); south = proper.high; north = omega (arith, ints) }))) in
     (first.west, omega (arith, ints, last.east, doubled_small p.nx l p.limits.greatest_nx fine))
 
--- the row over whole columns of level 0 that a box meets
-module _ (l : ℕ) (b row : Extent) (lo hi low after : ℕ) (y : ℤ) (proper : IsProper b) (lo_is : pos lo ≡ b.lo.x) (hi_is : pos hi ≡ b.hi.x)
-    (low_is : low ≡ lo / 2 ^ l * 2 ^ l) (after_is : after ≡ (hi / 2 ^ l + 1) * 2 ^ l) (room : after ≤ 4096) (row_is : row ≡ extent (cell (pos low) y) (cell (pos after -ℤ pos 1) y)) where
-  west_end : row.lo.x ≡ pos low
-  west_end = ap (λ (e : Extent). e.lo.x) row_is
+-- what the row over whole columns of level 0 is that a box meets
+pub record IsStripOver (l : ℕ) (b row : Extent) : Type 0 where
+  pub strip : IsStrip l row
+  pub near : IsNear row
+  pub narrow : width row ≤ 4096
+  pub west : row.lo.x ≤ℤ b.lo.x
+  pub east : b.hi.x ≤ℤ row.hi.x
 
-  east_end : row.hi.x +ℤ pos 1 ≡ pos after
-  east_end = let x : row.hi.x ≡ pos after -ℤ pos 1 = ap (λ (e : Extent). e.hi.x) row_is in omega (arith, ints, x)
-
-  pub strip_west : row.lo.x ≤ℤ b.lo.x
-  strip_west = omega (arith, ints, west_end, lo_is, low_is, round_down (2 ^ l) lo (power_some l))
-
-  pub strip_east : b.hi.x ≤ℤ row.hi.x
-  strip_east = omega (arith, ints, east_end, hi_is, after_is, round_up (2 ^ l) hi (power_some l))
-
-  pub strip_row : row.lo.y ≡ y
-  strip_row = ap (λ (e : Extent). e.lo.y) row_is
-
-  pub strip_is : IsStrip l row
-  strip_is = record {
-    first = lo / 2 ^ l;
-    after = hi / 2 ^ l + 1;
-    west = west_end ∙ ap pos low_is;
-    east = east_end ∙ ap pos after_is;
-    flat = ap (λ (e : Extent). e.hi.y) row_is ∙ sym strip_row;
-  }
-
-  pub strip_near : IsNear b → b.lo.y ≤ℤ y → y ≤ℤ b.hi.y → IsNear row
-  strip_near near from to =
-      let top : row.hi.y ≡ y = ap (λ (e : Extent). e.hi.y) row_is in
-      record {
-        west = omega (arith, ints, west_end);
-        east = omega (arith, ints, east_end, room);
-        south = omega (arith, ints, strip_row, from, near.south);
-        north = omega (arith, ints, top, to, near.north);
-        wide = omega (arith, ints, strip_west, strip_east, proper.wide);
-        high = omega (arith, ints, strip_row, top);
-      }
-
-  pub strip_narrow : IsNear row → width row ≤ 4096
-  strip_narrow near = omega (arith, ints, (sides row near).wide, west_end, east_end, room)
+pub strip_over : (l : ℕ) (b row : Extent) (lo hi low after : ℕ) (y : ℤ) → low ≡ lo / 2 ^ l * 2 ^ l → after ≡ (hi / 2 ^ l + 1) * 2 ^ l → low ≤ lo → hi < after → after ≤ 4096 → pos lo ≡ b.lo.x → pos hi ≡ b.hi.x → IsProper b → b.lo.y ≤ℤ y → y ≤ℤ b.hi.y → IsNear b
+    → row.lo.x ≡ pos low → row.hi.x +ℤ pos 1 ≡ pos after → row.lo.y ≡ y → row.hi.y ≡ y → IsStripOver l b row
+strip_over l b row lo hi low after y low_is after_is down up room lo_is hi_is proper from to near_b west_end east_end bottom top =
+    let west : row.lo.x ≤ℤ b.lo.x = omega (arith, ints, west_end, lo_is, down) in
+    let east : b.hi.x ≤ℤ row.hi.x = omega (arith, ints, east_end, hi_is, up) in
+    let near : IsNear row = record {
+      west = omega (arith, ints, west_end);
+      east = omega (arith, ints, east_end, room);
+      south = omega (arith, ints, bottom, from, near_b.south);
+      north = omega (arith, ints, top, to, near_b.north);
+      wide = omega (arith, ints, west, east, proper.wide);
+      high = omega (arith, ints, bottom, top);
+    } in
+    record {
+      strip = record {
+        first = lo / 2 ^ l;
+        after = hi / 2 ^ l + 1;
+        west = west_end ∙ ap pos low_is;
+        east = east_end ∙ ap pos after_is;
+        flat = top ∙ sym bottom;
+      };
+      near = near;
+      narrow = omega (arith, ints, (sides row near).wide, west_end, east_end, room);
+      west = west;
+      east = east;
+    }

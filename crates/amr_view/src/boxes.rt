@@ -30,6 +30,8 @@ fn whole_columns(l: u32, low: u32, high: u32) -> (u32, u32)
     requires high { high < 4096 }
     ensures first { result.0 ≡ low / 2 ^ l * 2 ^ l }
     ensures after { result.1 ≡ (high / 2 ^ l + 1) * 2 ^ l }
+    ensures west { result.0 ≤ low }
+    ensures east { high < result.1 }
     ensures room { result.1 ≤ 4096 }
 {
     let first = low >> l;
@@ -58,10 +60,7 @@ fn strip(p: &Problem, l: u32, b: &Bx, y: i32) -> Bx
         x: after as i32 - 1,
         y,
     };
-    match Bx::try_new(lo, hi) {
-        Some(row) => row,
-        None => unreachable!(),
-    }
+    Bx::try_new(lo, hi).unwrap()
 }
 
 /// Works out the masses of row `y` of the box. They stand from the answer on.

@@ -11,8 +11,8 @@ use Rattle.amr_patch.proofs.Rows.{sides}
 use Rattle.amr_patch.specs.Meshes.{state_of}
 use Rattle.amr_view.proofs.boxes.find_row.Goals as goal
 
-pub slice_bounds-fill_row-width : goal.slice_bounds-fill_row-width
-slice_bounds-fill_row-width c = omega (arith, c.width-width.ensures.value, c.strip-strip.ensures.narrow, c.requires.masses)
+pub slice_bounds-fill_row-end : goal.slice_bounds-fill_row-end
+slice_bounds-fill_row-end c = omega (arith, c.width-width.ensures.value, c.strip-strip.ensures.narrow, c.requires.masses)
 
 pub fill_row-requires-clause-width : goal.fill_row-requires-clause-width
 fill_row-requires-clause-width c = length-take c.width-width.result c.args.masses.now ∙ omega (arith, c.width-width.ensures.value, c.strip-strip.ensures.narrow, c.requires.masses)
@@ -40,8 +40,9 @@ returns-clause-masses c k lt =
     let from = c.distance.result in
     let near = (corners c.args.p.now c.args.l b c.requires.fine c.lo-2.ensures.proper c.requires.inside).near in
     let long : length c.fill_row.new.masses ≡ width strip = omega (arith, c.fill_row.auto.masses, length-take c.width-width.result c.args.masses.now, c.width-width.ensures.value, c.strip-strip.ensures.narrow, c.requires.masses) in
+    let row : strip.lo.y ≡ c.args.y = c.strip-strip.ensures.row ∙ omega (arith, ints) in
     let below : from + k < length c.fill_row.new.masses = omega (arith, ints, lt, long, c.distance.ensures.value, c.lo.ensures.x, c.lo-2.ensures.x, (sides b near).wide, c.strip-strip.ensures.east, (sides strip c.strip-strip.ensures.near).wide) in
     let x : strip.lo.x +ℤ pos (from + k) ≡ b.lo.x +ℤ pos k = omega (arith, ints, c.distance.ensures.value, c.lo.ensures.x, c.lo-2.ensures.x) in
     get_or_append_left c.fill_row.new.masses (drop c.width-width.result c.args.masses.now) 0 (from + k) below
     ∙ c.fill_row.ensures (from + k) below
-    ∙ ap (finest_mass s c.args.l) (same_cell x c.strip-strip.ensures.row)
+    ∙ ap (finest_mass s c.args.l) (same_cell x row)

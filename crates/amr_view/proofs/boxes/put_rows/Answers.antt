@@ -14,8 +14,31 @@ use Rattle.amr_plot.proofs.Putting.{texts_of_range}
 use Rattle.amr_view.proofs.Lines.{part_is}
 use Rattle.amr_view.proofs.boxes.put_rows.Goals as goal
 
-pub width-requires : goal.width-requires
-width-requires g c = (corners c.args.p.now c.args.l c.args.b.now c.requires.fine c.lo-low.ensures.proper c.requires.inside).near
+pub width-width-requires : goal.width-width-requires
+width-width-requires g c = (corners c.args.p.now c.args.l c.args.b.now c.requires.fine c.lo-low.ensures.proper c.requires.inside).near
+
+pub height-row-end-requires : goal.height-row-end-requires
+height-row-end-requires g c = (corners c.args.p.now c.args.l c.args.b.now c.requires.fine c.lo-low.ensures.proper c.requires.inside).near
+
+pub overflow_cast-y : goal.overflow_cast-y
+overflow_cast-y g c =
+    let near = (corners c.args.p.now c.args.l c.args.b.now c.requires.fine c.lo-low.ensures.proper c.requires.inside).near in
+    omega (arith, ints, c.height-row-end.ensures.corners, c.loop-row-test.true, near.south, near.north)
+
+pub overflow_add-y : goal.overflow_add-y
+overflow_add-y g c =
+    let near = (corners c.args.p.now c.args.l c.args.b.now c.requires.fine c.lo-low.ensures.proper c.requires.inside).near in
+    omega (arith, ints, c.height-row-end.ensures.corners, c.loop-row-test.true, c.lo-low.ensures.y, near.south, near.north)
+
+pub find_row-from-requires-clause-low : goal.find_row-from-requires-clause-low
+find_row-from-requires-clause-low g c =
+    let near = (corners c.args.p.now c.args.l c.args.b.now c.requires.fine c.lo-low.ensures.proper c.requires.inside).near in
+    omega (arith, ints, c.height-row-end.ensures.corners, c.loop-row-test.true, c.lo-low.ensures.y, near.south, near.north)
+
+pub find_row-from-requires-clause-high : goal.find_row-from-requires-clause-high
+find_row-from-requires-clause-high g c =
+    let near = (corners c.args.p.now c.args.l c.args.b.now c.requires.fine c.lo-low.ensures.proper c.requires.inside).near in
+    omega (arith, ints, c.height-row-end.ensures.corners, c.loop-row-test.true, c.lo-low.ensures.y, near.south, near.north)
 
 pub put_line-requires : goal.put_line-requires
 put_line-requires g c = omega (arith, length-take (c.find_row-from.result + c.width-width.result - c.find_row-from.result) (drop c.find_row-from.result c.find_row-from.new.masses), length-drop c.find_row-from.result c.find_row-from.new.masses, c.find_row-from.ensures.within, c.width-width.ensures.value)

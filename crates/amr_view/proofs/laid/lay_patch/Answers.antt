@@ -1,7 +1,7 @@
-use Rattle.std.proofs.Common.{◌≡◌, ◌∙◌, ℕ, ◌+◌, ◌-◌, ◌<◌, ◌≤◌, Bool, ◌&&◌, pos, ◌+ℤ◌, ◌-ℤ◌, ◌≤ℤ◌, List, length, take, IsTrue, refl, sym, ap, subst, arith}
+use Rattle.std.proofs.Common.{◌≡◌, ◌∙◌, ℕ, ◌+◌, ◌-◌, ◌<◌, ◌≤◌, Bool, ◌&&◌, pos, ◌+ℤ◌, ◌-ℤ◌, ◌≤ℤ◌, List, length, take, drop, IsTrue, refl, sym, ap, subst, arith}
 use Rattle.std.specs.Prelude.{slice_index}
 use Rattle.std.proofs.lemmas.Int.{ints}
-use Rattle.std.proofs.lemmas.List.{length-take}
+use Rattle.std.proofs.lemmas.List.{length-drop, length-take}
 use Rattle.amr_box.specs.declared.Cell.{Cell}
 use Rattle.amr_box.specs.Cells.{AreDisjoint, Extent, IsBoxOf, IsNear, IsProper, cell, holds}
 use Rattle.amr_patch.specs.declared.patches.Patch.{Patch}
@@ -41,6 +41,31 @@ pub masses_from-span-requires : goal.masses_from-span-requires
 masses_from-span-requires c =
     let m = met c.args.patch.now c.args.row.now c.in-Some.both c.bx.result c.requires.near c.requires.flat c.bx.ensures.value c.in-Some.ensures.cells c.lo-2.ensures.proper in
     subst (λ (d : Cell). IsTrue (holds (box c.args.patch.now) d)) (sym c.lo-3.ensures.value) m.held
+
+pub slice_bounds-copy_from_slice-end : goal.slice_bounds-copy_from_slice-end
+slice_bounds-copy_from_slice-end c =
+    let row = c.args.row.now in
+    let m = met c.args.patch.now row c.in-Some.both c.bx.result c.requires.near c.requires.flat c.bx.ensures.value c.in-Some.ensures.cells c.lo-2.ensures.proper in
+    omega (arith, ints, m.east, c.distance-from.ensures.value, c.lo.ensures.x, c.lo-2.ensures.x, c.width-count.ensures.corners, (sides row c.requires.near).wide, c.requires.width)
+
+pub slice_bounds-copy_from_slice-end-2 : goal.slice_bounds-copy_from_slice-end-2
+slice_bounds-copy_from_slice-end-2 c =
+    let m = met c.args.patch.now c.args.row.now c.in-Some.both c.bx.result c.requires.near c.requires.flat c.bx.ensures.value c.in-Some.ensures.cells c.lo-2.ensures.proper in
+    let span = c.masses_from-span.result.now in
+    let enough : c.width-count.result ≤ length span = omega (arith, ints, c.masses_from-span.ensures.count, c.width-count.ensures.corners, m.reach, c.lo-3.ensures.x) in
+    omega (arith, length-take c.width-count.result span, enough)
+
+pub copy_from_slice-requires : goal.copy_from_slice-requires
+copy_from_slice-requires c =
+    let row = c.args.row.now in
+    let m = met c.args.patch.now row c.in-Some.both c.bx.result c.requires.near c.requires.flat c.bx.ensures.value c.in-Some.ensures.cells c.lo-2.ensures.proper in
+    let span = c.masses_from-span.result.now in
+    let from = c.distance-from.result in
+    let count = c.width-count.result in
+    let enough : count ≤ length span = omega (arith, ints, c.masses_from-span.ensures.count, c.width-count.ensures.corners, m.reach, c.lo-3.ensures.x) in
+    let fits : from + count ≤ length c.args.masses.now =
+    omega (arith, ints, m.east, c.distance-from.ensures.value, c.lo.ensures.x, c.lo-2.ensures.x, c.width-count.ensures.corners, (sides row c.requires.near).wide, c.requires.width) in
+    omega (arith, length-take (from + count - from) (drop from c.args.masses.now), length-drop from c.args.masses.now, length-take count span, enough, fits)
 
 pub returns : goal.returns
 returns c =
