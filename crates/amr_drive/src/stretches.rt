@@ -1,6 +1,6 @@
 //! The steps of species from one regrid that is due to the next.
 
-ghost use Rattle.std.specs.Prelude.{◌≡◌, ◌<◌, ℕ, length, slice_index_or, true, OnOk};
+ghost use Rattle.std.specs.Prelude.{◌≡◌, ◌<◌, ◌≤◌, ℕ, length, slice_index_or, true, OnOk};
 ghost use Rattle.std.specs.List.{All};
 ghost use Rattle.amr_advance.specs.Crews.{MayRun};
 ghost use Rattle.amr_drive.specs.declared.lanes.Lane.{Lane};
@@ -8,7 +8,7 @@ ghost use Rattle.amr_drive.specs.Lanes.{AtEach, HasGone, HasStepped, HaveGone, M
 
 use crate::lanes::{Lane, all_done, change_all};
 use crate::nexts::make_plain_step;
-use crate::teams::make_by;
+use crate::teams::{dismiss, gather, hire, while_served};
 use amr_advance::Workers;
 use amr_causes::NoMemory;
 use amr_cycle::Kept;
@@ -38,6 +38,54 @@ fn make_plain_steps<R: Threads + Wait + Sync, G: Gate + Sync>(
     Ok(())
 }
 
+/// The same once the kept workers are there, who are then let go: also where a step was refused.
+fn lead<R: Threads + Wait + Sync, G: Gate + Sync>(
+    workers: &mut Workers<'_, R, G>,
+    p: &Problem,
+    mesh: &mut Mesh,
+    kept: &mut Kept,
+    end: u32,
+) -> Result<(), NoMemory>
+    requires steps { MayStep p.now end mesh.old kept.old }
+    requires crew { (tasks : ℕ) → MayRun G.admits p.now tasks workers.old }
+    ensures { OnOk result (HasStepped p.now end mesh.old mesh.new kept.new) }
+{
+    gather(workers);
+    let made = make_plain_steps(workers, p, mesh, kept, end);
+    dismiss(workers);
+    made
+}
+
+/// The same by so many workers, who last from the first step to the last.
+fn make_steps_by<'a, R: Threads + Wait + Sync, G: Gate + Sync>(
+    rt: &'a R,
+    alloc: Global,
+    job: &'a LevelWork<'a>,
+    count: u32,
+    gate: &'a G,
+    mesh: &mut Mesh,
+    kept: &mut Kept,
+    end: u32,
+) -> Result<(), NoMemory>
+    requires steps { MayStep job.now.problem.now end mesh.old kept.old }
+    requires some_workers { 1 ≤ count }
+    requires few_workers { count ≤ 64 }
+    requires gate { (worker task : ℕ) → worker < count → G.admits gate.now worker task }
+    ensures { OnOk result (HasStepped job.now.problem.now end mesh.old mesh.new kept.new) }
+{
+    let (mut workers, recruits) = hire(rt, alloc, job, count, gate);
+    while_served(
+        rt,
+        job,
+        gate,
+        recruits,
+        &mut || -> Result<(), NoMemory>
+            requires { MayStep job.now.problem.now end mesh.now kept.now × ((tasks : ℕ) → MayRun G.admits job.now.problem.now tasks workers) }
+            ensures { OnOk result (HasStepped job.entry.now.problem.now end mesh.entry.now mesh.exit.now kept.exit.now) }
+        { lead(&mut workers, job.problem, mesh, kept, end) },
+    )
+}
+
 /// Makes the steps of a species up to step `end`, by its own workers.
 fn go_alone<R: Threads + Wait + Sync, G: Gate + Sync>(
     rt: &R,
@@ -52,14 +100,7 @@ fn go_alone<R: Threads + Wait + Sync, G: Gate + Sync>(
     let job = LevelWork {
         problem: lane.problem,
     };
-    let p = lane.problem;
-    let mesh = &mut lane.mesh;
-    let kept = &mut lane.kept;
-    let mut steps = |workers: &mut Workers<'_, R, G>| -> Result<(), NoMemory>
-        requires { MayStep p.now end mesh.now kept.now × ((tasks : ℕ) → MayRun G.admits p.now tasks workers.now) }
-        ensures { OnOk result (HasStepped p.entry.now end mesh.entry.now mesh.exit.now kept.exit.now) }
-    { make_plain_steps(workers, p, mesh, kept, end) };
-    let made = make_by(rt, alloc, &job, lane.workers, gate, &mut steps);
+    let made = make_steps_by(rt, alloc, &job, lane.workers, gate, &mut lane.mesh, &mut lane.kept, end);
     match made {
         Ok(()) => lane.done = true,
         Err(_) => lane.done = false,
