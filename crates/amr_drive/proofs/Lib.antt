@@ -11,6 +11,7 @@ mod DueRegrids
 mod GoneOn
 mod LaneChanges
 mod Written
+mod Lent
 mod LaneShares
 mod LaneSends
 mod FlockStarts
