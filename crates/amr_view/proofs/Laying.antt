@@ -8,7 +8,6 @@ use Rattle.std.proofs.lemmas.Int.{ints}
 use Rattle.std.proofs.lemmas.Bool.{cases_lt, false_from_ne_true}
 use Rattle.std.proofs.lemmas.List.{get_or-take, length-append, length-drop, length-take}
 use borrow.Rule.Slice.PartMut.{post_of}
-use Rattle.amr_box.specs.declared.Cell.{Cell}
 use Rattle.amr_box.specs.Cells.{AreDisjoint, Extent, IsBoxOf, IsNear, IsProper, cell, holds, width}
 use Rattle.amr_box.proofs.CellEquality.{same_cell}
 use Rattle.amr_patch.specs.declared.patches.Patch.{Patch}

@@ -1,9 +1,7 @@
-use Rattle.std.proofs.Common.{◌≡◌, ◌∙◌, ℕ, ◌+◌, ◌<◌, ◌≤◌, ◌++◌, pos, ◌+ℤ◌, List, length, take, drop, sym, ap, arith}
-use Rattle.std.specs.Prelude.{slice_index}
+use Rattle.std.proofs.Common.{◌≡◌, ◌∙◌, ◌+◌, ◌<◌, ◌++◌, pos, ◌+ℤ◌, length, drop, ap, arith}
 use Rattle.std.proofs.lemmas.Int.{ints}
 use Rattle.std.proofs.lemmas.List.{get_or_append_left, length-append, length-drop, length-take}
 use Rattle.amr_box.proofs.CellEquality.{same_cell}
-use Rattle.amr_box.specs.declared.Cell.{Cell}
 use Rattle.amr_box.specs.Cells.{width}
 use Rattle.amr_def.specs.View.{finest_mass}
 use Rattle.amr_patch.proofs.Corners.{corners}

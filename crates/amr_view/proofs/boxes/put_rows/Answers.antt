@@ -1,8 +1,7 @@
-use Rattle.std.proofs.Common.{◌≡◌, ◌∙◌, ℕ, ◌+◌, ◌-◌, ◌<◌, ◌++◌, [], ◌∷◌, List, length, take, drop, sym, ap, subst, arith}
-use Rattle.std.specs.Prelude.{slice_index}
+use Rattle.std.proofs.Common.{◌≡◌, ◌∙◌, ℕ, ◌+◌, ◌-◌, List, drop, sym, ap, subst, arith}
 use Rattle.std.proofs.lemmas.Int.{ints}
-use Rattle.std.proofs.lemmas.List.{get_or-drop, get_or-take, length-drop, length-take}
-use Rattle.amr_box.specs.Cells.{height, width}
+use Rattle.std.proofs.lemmas.List.{length-drop, length-take}
+use Rattle.amr_box.specs.Cells.{height}
 use Rattle.amr_def.specs.Plot.{mass_line}
 use Rattle.amr_def.specs.View.{finest_masses, view}
 use Rattle.amr_patch.proofs.Corners.{corners}

@@ -1,4 +1,4 @@
-use Rattle.amr_plot.proofs.SheetTexts.{ended, ended_cause, ended_no_fault, ended_part, ended_short, fell}
+use Rattle.amr_plot.proofs.SheetTexts.{ended, ended_part, ended_short}
 use Rattle.amr_view.proofs.boxes.write_rows.Goals as goal
 
 pub returns-clause-whole : goal.returns-clause-whole

@@ -1,4 +1,4 @@
-use Rattle.std.proofs.Common.{◌≡◌, ◌∙◌, ◌≤◌, ℕ, List, length, map, get_or, refl, sym, ap, subst, arith}
+use Rattle.std.proofs.Common.{◌≡◌, ◌∙◌, List, length, get_or, sym, ap, arith}
 use Rattle.std.specs.Prelude.{slice_index}
 use Rattle.std.specs.Option.{unwrap_or}
 use Rattle.std.proofs.lemmas.List.{get_or_past, length-map}
@@ -6,7 +6,7 @@ use Rattle.amr_def.specs.State.{Level, no_level}
 use Rattle.amr_patch.specs.Levels.{level_of}
 use Rattle.amr_patch.specs.Meshes.{state_of}
 use Rattle.amr_patch.proofs.Items.{level_item}
-use Rattle.amr_view.specs.Rows.{AreLaid, cell_at}
+use Rattle.amr_view.specs.Rows.{cell_at}
 use Rattle.amr_view.proofs.laid.lay.Goals as goal
 
 pub returns-then-at-levels : goal.returns-then-at-levels

@@ -1,4 +1,4 @@
-use Rattle.std.proofs.Common.{◌≡◌, ◌≤◌, drop, length}
+use Rattle.std.proofs.Common.{◌≤◌, drop, length}
 use Rattle.amr_patch.specs.Patches.{masses_in}
 use Rattle.amr_view.specs.Rows.{AreLaid}
 use Rattle.amr_view.proofs.laid.lay_patches.Given as goal

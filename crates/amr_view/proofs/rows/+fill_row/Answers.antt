@@ -1,15 +1,14 @@
-use Rattle.std.proofs.Common.{◌≡◌, ◌∙◌, ℕ, suc, ◌+◌, ◌-◌, ◌*◌, ◌/◌, ◌<◌, ◌≤◌, ◌++◌, List, length, take, drop, to_z, of_z, w32, refl, sym, ap, subst, arith}
+use Rattle.std.proofs.Common.{◌≡◌, ◌∙◌, ℕ, suc, ◌+◌, ◌-◌, ◌*◌, ◌/◌, ◌++◌, List, length, take, drop, to_z, of_z, w32, refl, sym, ap, subst, arith}
 use Rattle.std.specs.Prelude.{slice_index}
 use Rattle.std.proofs.lemmas.Int.{ints}
 use Rattle.std.proofs.lemmas.List.{length-take, take_at}
 use Rattle.amr_box.specs.Cells.{width}
-use Rattle.amr_def.specs.Regrid.{odd, split_mass}
+use Rattle.amr_def.specs.Regrid.{odd}
 use Rattle.amr_def.specs.State.{level_at}
-use Rattle.amr_def.specs.View.{finest_masses}
 use Rattle.amr_patch.proofs.Entries.{replicated}
 use Rattle.amr_patch.specs.Meshes.{state_of}
 use Rattle.amr_transfer.proofs.Halves.{near_parents}
-use Rattle.amr_view.specs.Rows.{AreFinest, AreLaid, IsStrip, cell_at}
+use Rattle.amr_view.specs.Rows.{AreFinest, AreLaid, IsStrip}
 use Rattle.amr_view.proofs.Strips.{half_wide, laid_finest, laid_first, shares_are, strip_parents}
 use Rattle.amr_view.proofs.rows.+fill_row.Goals as goal
 
