@@ -10,6 +10,7 @@ mod LaneLists
 mod DueRegrids
 mod GoneOn
 mod LaneChanges
+mod OnlyMesh
 mod Written
 mod Lent
 mod LaneShares
