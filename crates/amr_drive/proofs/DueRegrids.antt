@@ -1,5 +1,5 @@
 -- Regrids of all species where they are due, and when they are.
-use Rattle.std.proofs.Common.{◌≡◌, ◌∙◌, Bool, true, false, cond, ◌&&◌, ℕ, ◌-◌, ◌%◌, ◌≤◌, ◌==◌, min, refl, sym, ap, List, [], ◌∷◌, length, map, arith}
+use Rattle.std.proofs.Common.{◌≡◌, ◌∙◌, Bool, true, false, cond, ◌&&◌, ℕ, ◌%◌, ◌≤◌, ◌==◌, min, refl, sym, ap, List, [], ◌∷◌, length, map, arith}
 use Rattle.std.specs.Prelude.{nat_lt}
 use Rattle.std.specs.List.{All}
 use Rattle.std.proofs.lemmas.List.Elements.{All-head, All-tail}

@@ -1,5 +1,5 @@
 -- All species up to the next regrid that is due: the states that a run of them has there.
-use Rattle.std.proofs.Common.{◌≡◌, ◌∙◌, false, cond, ℕ, ◌+◌, ◌-◌, ◌%◌, ◌<◌, ◌≤◌, ◌==◌, sym, ap, subst, List, length, map, arith}
+use Rattle.std.proofs.Common.{◌≡◌, ◌∙◌, false, cond, ℕ, ◌-◌, ◌%◌, ◌<◌, ◌≤◌, ◌==◌, sym, ap, subst, List, length, map, arith}
 use Rattle.amr_def.specs.declared.problem.Problem.{Problem}
 use Rattle.amr_def.specs.State.{State}
 use Rattle.amr_def.specs.Run.{regrid_is_due, stepped, times}

@@ -1,5 +1,5 @@
 -- Lanes that have their meshes, go, and give them back.
-use Rattle.std.proofs.Common.{◌≡◌, ◌∙◌, true, ℕ, ◌<◌, sym, subst, List, length, arith}
+use Rattle.std.proofs.Common.{◌≡◌, true, ℕ, ◌<◌, sym, subst, List, length, arith}
 use Rattle.std.specs.Prelude.{slice_index_or}
 use Rattle.std.specs.List.{All}
 use Rattle.amr_patch.specs.declared.meshes.Mesh.{Mesh}

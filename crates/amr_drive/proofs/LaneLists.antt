@@ -18,7 +18,7 @@ use Rattle.amr_patch.specs.Meshes.{is_spent, state_of}
 use Rattle.amr_cycle.specs.Kept.{IsKeptFor}
 use Rattle.amr_drive.specs.declared.lanes.Lane.{Lane}
 use Rattle.amr_drive.specs.Flocks.{AreMeshesOf, IsInPatchesOf, problems_of}
-use Rattle.amr_drive.specs.Lanes.{AtEach, HasForgotten, HasGone, HaveGone, IsNewLane, MayGo, MayStep, StandsAt, stepped_to}
+use Rattle.amr_drive.specs.Lanes.{AtEach, HasForgotten, HaveGone, IsNewLane, MayGo, MayStep, StandsAt, stepped_to}
 use Rattle.amr_drive.proofs.StepsTo.{stepped_to_step}
 
 -- an element of a list that has some

@@ -1,5 +1,5 @@
 -- Workers shared out among species.
-use Rattle.std.proofs.Common.{ℕ, ◌+◌, ◌*◌, ◌/◌, ◌%◌, ◌<◌, ◌≤◌, arith}
+use Rattle.std.proofs.Common.{ℕ, ◌+◌, ◌/◌, ◌%◌, ◌<◌, ◌≤◌, arith}
 use Rattle.std.proofs.lemmas.Nat.{div-add-mod', le-div, mul-le}
 
 pub share_some : (w c : ℕ) → 0 < c → c ≤ w → 1 ≤ w / c

@@ -1,5 +1,5 @@
 -- The only species of a problem goes as a run of one mesh.
-use Rattle.std.proofs.Common.{◌≡◌, ◌∙◌, ℕ, ◌<◌, ◌≤◌, false, refl, sym, ap, subst, List, [], ◌∷◌, length, map, get_or, set, arith}
+use Rattle.std.proofs.Common.{◌≡◌, ◌∙◌, ℕ, ◌≤◌, false, refl, sym, ap, subst, List, [], ◌∷◌, length, map, get_or, set, arith}
 use Rattle.std.specs.List.{All}
 use Rattle.std.proofs.lemmas.List.{length-map}
 use Rattle.std.proofs.lemmas.List.Elements.{All-cons, All-nil}

@@ -1,9 +1,8 @@
-use Rattle.std.proofs.Common.{ℕ, ◌≡◌, ◌∙◌, ◌++◌, ◌∷◌, [], false, map, subst, sym, ap, arith}
-use Rattle.std.specs.List.{All, range_with_len}
-use Rattle.std.proofs.lemmas.List.Elements.{All-nil, All-same, All-push}
+use Rattle.std.proofs.Common.{ℕ, ◌≡◌, ◌∙◌, ◌++◌, ◌∷◌, [], false, map, ap, arith}
+use Rattle.std.specs.List.{range_with_len}
+use Rattle.std.proofs.lemmas.List.Elements.{All-same, All-push}
 use Rattle.amr_def.specs.Run.{plain_start}
 use Rattle.amr_def.specs.Species.{of_species}
-use Rattle.amr_patch.specs.declared.meshes.Mesh.{Mesh}
 use Rattle.amr_patch.specs.Meshes.{is_spent, state_of}
 use Rattle.amr_drive.specs.Flocks.{IsInPatchesOf, meshes_of}
 use Rattle.amr_drive.proofs.FlockStarts.{base_patches, base_state, bases_flock, made_more, states_more}

@@ -1,4 +1,4 @@
-use Rattle.std.proofs.Common.{◌≡◌, ◌∙◌, ap, sym, below_more, arith}
+use Rattle.std.proofs.Common.{◌∙◌, ap, sym, below_more, arith}
 use Rattle.std.proofs.lemmas.List.{get_or_default}
 use Rattle.amr_drive.specs.declared.lanes.Lane.{Lane}
 use Rattle.amr_drive.proofs.lanes.all_done.Goals as goal

@@ -1,4 +1,4 @@
-use Rattle.std.proofs.Common.{arith, ◌∙◌, ap, sym}
+use Rattle.std.proofs.Common.{arith, ◌∙◌, ap}
 use Rattle.std.proofs.lemmas.List.{take_all}
 use Rattle.amr_def.specs.OneSpecies.{blocks_of}
 use Rattle.amr_drive.proofs.SpeciesParts.{blocks_more}

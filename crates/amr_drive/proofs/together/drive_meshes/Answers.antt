@@ -1,4 +1,4 @@
-use Rattle.std.proofs.Common.{◌≡◌, ◌∙◌, ap, refl, sym, subst, map, arith}
+use Rattle.std.proofs.Common.{◌≡◌, ◌∙◌, ap, sym, subst, map, arith}
 use Rattle.amr_def.specs.Species.{finish_all}
 use Rattle.amr_patch.specs.Meshes.{state_of}
 use Rattle.amr_drive.specs.Lanes.{StandsAt}
