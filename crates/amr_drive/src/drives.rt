@@ -15,7 +15,7 @@ ghost use Rattle.amr_drive.specs.States.{states_after};
 
 use crate::after::AfterStep;
 use crate::nexts::{Run, make_next};
-use crate::teams::drive_by_team;
+use crate::teams::{dismiss, gather, hire, while_served};
 use amr_advance::{Crew, Workers};
 use amr_causes::NoMemory;
 use amr_cycle::Kept;
@@ -101,6 +101,53 @@ pub(crate) fn make_steps<R: Threads + Wait + Sync, G: Gate + Sync, A: AfterStep>
     Ok(())
 }
 
+/// Makes the steps of a run once its kept workers are there, and then lets them go: also where a step was refused.
+fn lead<R: Threads + Wait + Sync, G: Gate + Sync, A: AfterStep>(
+    run: &Run<'_>,
+    workers: &mut Workers<'_, R, G>,
+    mesh: &mut Mesh,
+    after: &mut A,
+) -> Result<(), DriveFault<A::Fault>>
+    requires may { MayDrive A.ready run.now.job.problem.now run.now.target mesh.old after.old }
+    requires crew { (tasks : ℕ) → MayRun G.admits run.now.job.problem.now tasks workers.old }
+    ensures { HasDriven A.made run.now.job.problem.now run.now.target mesh.old after.old result mesh.new after.new }
+{
+    gather(workers);
+    let done = make_steps(run, workers, mesh, after);
+    dismiss(workers);
+    done
+}
+
+/// Makes the steps of a run by so many workers, who last from the first step to the last.
+fn drive_by<'a, R: Threads + Wait + Sync, G: Gate + Sync, A: AfterStep>(
+    rt: &'a R,
+    run: &'a Run<'a>,
+    count: u32,
+    gate: &'a G,
+    mesh: &mut Mesh,
+    after: &mut A,
+) -> Result<(), DriveFault<A::Fault>>
+    requires may { MayDrive A.ready run.now.job.problem.now run.now.target mesh.old after.old }
+    requires some_workers { 1 ≤ count }
+    requires few_workers { count ≤ 64 }
+    requires gate { (worker task : ℕ) → worker < count → G.admits gate.now worker task }
+    ensures { HasDriven A.made run.now.job.problem.now run.now.target mesh.old after.old result mesh.new after.new }
+{
+    let job = &run.job;
+    let (mut workers, recruits) = hire(rt, run.alloc, job, count, gate);
+    while_served(
+        rt,
+        job,
+        gate,
+        recruits,
+        &mut || -> Result<(), DriveFault<A::Fault>>
+            requires { MayDrive A.ready run.now.job.problem.now run.now.target mesh.now after.now
+                × ((tasks : ℕ) → MayRun G.admits run.now.job.problem.now tasks workers) }
+            ensures { HasDriven A.made run.entry.now.job.problem.now run.entry.now.target mesh.entry.now after.entry.now result mesh.exit.now after.exit.now }
+        { lead(run, &mut workers, mesh, after) },
+    )
+}
+
 /// Makes the steps of a run up to step `target` (Berger and Colella 1989). Before a step the mesh is regridded, where that is due:
 /// at each step above 0 that is a multiple of `regrid_int`. After each step `after` is called once, with the mesh as it is then.
 /// The outcome is the same for any number of workers, whoever draws which task. Several workers last from the first step to the
@@ -151,14 +198,5 @@ pub fn drive<R: Threads + Wait + Sync, G: Gate + Sync, A: AfterStep>(
         job: LevelWork { problem: p },
         target,
     };
-    if crew.workers > 1 {
-        return drive_by_team(rt, &run, crew.workers, gate, mesh, after);
-    }
-    let mut workers = Workers {
-        runtime: rt,
-        gate,
-        count: crew.workers,
-        team: None,
-    };
-    make_steps(&run, &mut workers, mesh, after)
+    drive_by(rt, &run, crew.workers, gate, mesh, after)
 }

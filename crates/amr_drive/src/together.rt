@@ -110,6 +110,7 @@ fn go_on<R: Threads + Wait + Sync, G: Gate + Sync>(
     let end = stretch_end(p, step, target);
     go_to(
         workers.runtime,
+        alloc,
         workers.gate,
         workers.count,
         end,
