@@ -3,7 +3,7 @@ use Rattle.std.proofs.Common.{◌≡◌, ◌∙◌, ℕ, zero, suc, ◌<◌, ◌
 use Rattle.std.specs.Global.{Vec}
 use Rattle.std.proofs.lemmas.List.{get_or_append_left, get_or-append-add, get_or_default, map-append}
 use Rattle.std.proofs.lemmas.List.Elements.{All-append, All-cons, All-nil}
-use Rattle.amr_batch.specs.Shares.{IsShare, Owner, lists_in, tasks_of}
+use Rattle.amr_balance.specs.Shares.{IsShare, Owner, lists_in, tasks_of}
 use Rattle.amr_batch.specs.declared.replies.Lot.{Lot}
 use Rattle.amr_batch.specs.Replies.{AreTasks, HasTasks}
 

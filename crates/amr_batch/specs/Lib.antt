@@ -2,4 +2,3 @@ pub mod Answer
 pub mod Batch
 pub mod Laws
 pub mod Replies
-pub mod Shares

@@ -2,7 +2,6 @@
 //!
 //! - [`jobs`]: where the jobs of a batch stand in its bytes.
 //! - [`run_all`]: the reply of each job, by what solves one ([`Solve`]).
-//! - [`share`]: jobs shared out among workers in advance, by their sizes.
 //! - [`put_answer`]: the replies ([`Reply`]) in order, and the end.
 //!
 //! The definitions stand in `specs/Batch` and `specs/Answer`, and the laws in `specs/Laws`: each is what a call with an empty body ensures.
@@ -11,13 +10,11 @@
 ghost use Rattle.amr_batch.specs.Laws.{HasOnePlace, HasOneReading, IsOneOrTheOther, RepliesStandAlone};
 
 mod answer;
-mod balance;
 mod numeral;
 mod replies;
 mod spans;
 
 pub use answer::{Reply, put_answer};
-pub use balance::share;
 pub use replies::{Solve, run_all};
 pub use spans::{JobsFault, Span, jobs};
 

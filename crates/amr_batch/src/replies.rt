@@ -4,10 +4,10 @@ ghost use Rattle.std.specs.Prelude.{◌≡◌, ℕ, ◌<◌, ◌≤◌, List, le
 ghost use Rattle.std.specs.List.{All};
 ghost use Rattle.amr_batch.specs.Batch.{IsSpanOf};
 ghost use Rattle.amr_batch.specs.Replies.{AreReplies, AreRepliesTo, AreTasks, HasReplies, HasTasks, IsServed, job_at};
-ghost use Rattle.amr_batch.specs.Shares.{lists_in};
+ghost use Rattle.amr_balance.specs.Shares.{lists_in};
 
 use crate::Span;
-use crate::balance::share;
+use amr_balance::share;
 use amr_causes::NoMemory;
 use std::alloc::Global;
 use std::sync::Wait;

@@ -81,8 +81,8 @@ fn create<D: Disk>(
     }
 }
 
-/// Makes the store of a run's problem of one species, which these bytes are, where the disk holds none: one of version 2, or with records of version 3. A stop at
-/// any moment leaves nothing, or the new store. If allocation fails the disk is as before.
+/// Makes the store of a run's problem of one species, which these bytes are, where the disk holds none: one of version 2, or with
+/// records of version 3. A stop at any moment leaves nothing, or the new store. If allocation fails the disk is as before.
 pub fn make_store<D: Disk>(
     alloc: Global,
     p: &Problem,

@@ -1,10 +1,8 @@
 -- Regrids of all species where they are due, and when they are.
-use Rattle.std.proofs.Common.{◌≡◌, ◌∙◌, Bool, true, false, cond, ◌&&◌, ℕ, zero, suc, ◌+◌, ◌*◌, ◌-◌, ◌/◌, ◌%◌, ◌<◌, ◌≤◌, ◌==◌, min, refl, sym, ap, List, [], ◌∷◌, length, map, arith}
+use Rattle.std.proofs.Common.{◌≡◌, ◌∙◌, Bool, true, false, cond, ◌&&◌, ℕ, ◌-◌, ◌%◌, ◌≤◌, ◌==◌, min, refl, sym, ap, List, [], ◌∷◌, length, map, arith}
 use Rattle.std.specs.Prelude.{nat_lt}
 use Rattle.std.specs.List.{All}
-use Rattle.std.proofs.lemmas.Bool.Decides.{nat_tests}
 use Rattle.std.proofs.lemmas.List.Elements.{All-head, All-tail}
-use Rattle.std.proofs.lemmas.Nat.{mod-mul-add}
 use Rattle.amr_box.specs.declared.Cell.{Cell}
 use Rattle.amr_def.specs.declared.problem.Problem.{Problem}
 use Rattle.amr_def.specs.declared.problem.Row.{Row}
@@ -12,7 +10,7 @@ use Rattle.amr_def.specs.Facts.{IsSound}
 use Rattle.amr_def.specs.NewBoxes.{new_boxes}
 use Rattle.amr_def.specs.Regrid.{refill, regrid_by, regridded_levels}
 use Rattle.amr_def.specs.Run.{regrid_is_due}
-use Rattle.amr_def.specs.Species.{AreAlike, first_state, is_tagged_in_some, regrid_all, step_of}
+use Rattle.amr_def.specs.Species.{AreAlike, first_state, is_tagged_in_some, regrid_all}
 use Rattle.amr_def.specs.State.{Level, State}
 
 -- ---- one level alone
@@ -43,33 +41,7 @@ all_alone p ss e alike = either (regrid_is_due p (first_state ss))
     either true = sym (states_alone p (is_tagged_in_some p ss) e ss alike.sound)
     either false = refl
 
-abbrev pub at_step : Problem → ℕ → Bool
-at_step p n = nat_lt 0 n && ((n % p.regrid_int) == 0)
-
--- where it is due at the step that they are at
-pub all_due : (p : Problem) (ss ts : List State) (n : ℕ) → step_of ss ≡ n → at_step p n ≡ true → ts ≡ regrid_all p ss → ts ≡ cond (regrid_is_due p (first_state ss)) (regrid_all p ss) ss
-all_due p ss ts n at due made = made ∙ ap (λ b. cond b (regrid_all p ss) ss) (sym (ap (at_step p) at ∙ due))
-
--- and where it isn't
-pub none_now : (p : Problem) (ss : List State) (n : ℕ) → step_of ss ≡ n → at_step p n ≡ false → ss ≡ cond (regrid_is_due p (first_state ss)) (regrid_all p ss) ss
-none_now p ss n at due = ap (λ b. cond b (regrid_all p ss) ss) (sym (ap (at_step p) at ∙ due))
-
--- ---- when the next one is
-
--- no multiple of n lies between two that follow one another
-none_between : (n q r j : ℕ) → r < n → q * n + r < j → j < q * n + n → j % n ≡ 0 → ⊥
-none_between n q r j small above below none =
-    let rest : j - q * n < n = omega (arith, above, below) in
-    let whole : j ≡ q * n + (j - q * n) = omega (arith, above) in
-    let left : j % n ≡ j - q * n = ap (λ i. i % n) whole ∙ mod-mul-add q n (j - q * n) rest in
-    omega (arith, left, none, above)
-
-test_false : (x : ℕ) → (x ≡ 0 → ⊥) → (x == 0) ≡ false
-test_false zero h = absurd (h refl)
-test_false (suc x) h = grind (arith, nat_tests)
-
-pub none_test : (n q r j : ℕ) → r < n → q * n + r < j → j < q * n + n → (j % n == 0) ≡ false
-none_test n q r j small above below = test_false (j % n) (none_between n q r j small above below)
+-- ---- when none is
 
 pub not_due : (p : Problem) (s : State) → (s.step % p.regrid_int == 0) ≡ false → regrid_is_due p s ≡ false
 not_due p s h = ap (λ b. nat_lt 0 s.step && b) h ∙ and_none (nat_lt 0 s.step)

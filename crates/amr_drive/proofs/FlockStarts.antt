@@ -1,6 +1,7 @@
 -- The start of all species: level 0 of each, and their regrids.
-use Rattle.std.proofs.Common.{◌≡◌, ◌∙◌, false, ℕ, suc, ◌+◌, ◌-◌, ◌<◌, sym, ap, subst, List, [], ◌∷◌, ◌++◌, map, arith}
+use Rattle.std.proofs.Common.{◌≡◌, ◌∙◌, false, ℕ, suc, ◌+◌, ◌-◌, ◌<◌, sym, ap, subst, List, [], ◌∷◌, ◌++◌, length, map, arith}
 use Rattle.std.specs.List.{All, range_with_len}
+use Rattle.std.specs.Vec.{with_items}
 use Rattle.std.proofs.lemmas.List.{map-append}
 use Rattle.std.proofs.lemmas.List.FromFn.{map-range_with_len_more}
 use Rattle.amr_def.specs.declared.problem.Problem.{Problem}
@@ -13,7 +14,8 @@ use Rattle.amr_patch.specs.declared.meshes.Mesh.{Mesh}
 use Rattle.amr_patch.specs.Meshes.{is_spent, levels_of, state_of}
 use Rattle.amr_start.specs.PatchBoxes.{HasChoppedDomain}
 use Rattle.amr_drive.specs.declared.flocks.Flock.{Flock}
-use Rattle.amr_drive.specs.Flocks.{AreMeshesOf, IsFlockOf, IsInPatchesOf, meshes_of, plain_starts, problems_of}
+use Rattle.amr_drive.specs.Flocks.{AreMeshesOf, IsFlockOf, IsInPatchesOf, meshes_of, plain_starts, problems_of, states_of}
+use Rattle.amr_drive.proofs.Lent.{lent_back}
 use Rattle.amr_drive.proofs.StartLaws.{base-chopped}
 
 -- ---- one more
@@ -64,6 +66,13 @@ pub all_started : (p : Problem) (first ss : List State) → first ≡ plain_star
 unfolding start_all
 all_started p first ss is made = made ∙ ap (times (regrid_all p) p.max_level) is
 
-pub started_flock : (p : Problem) (f g : Flock) → IsFlockOf p f → g.problems.items ≡ f.problems.items → AreMeshesOf p g.meshes.items → IsFlockOf p g
-unfolding meshes_of
-started_flock p f g is problems meshes = record { problems = problems ∙ is.problems; meshes = meshes }
+-- ---- a flock whose meshes were lent
+
+module _ (p : Problem) (f : Flock) (lent ns : List Mesh) (is : lent ≡ f.meshes.items) (same : length lent ≡ length ns) where
+  pub lent_states : states_of (record f { meshes = with_items f.meshes ns }) ≡ map state_of ns
+  unfolding meshes_of
+  lent_states = ap (map state_of) (lent_back f.meshes lent ns is same)
+
+  pub lent_flock : IsFlockOf p f → AreMeshesOf p ns → IsFlockOf p (record f { meshes = with_items f.meshes ns })
+  unfolding meshes_of
+  lent_flock flock meshes = record { problems = flock.problems; meshes = subst (AreMeshesOf p) (sym (lent_back f.meshes lent ns is same)) meshes }

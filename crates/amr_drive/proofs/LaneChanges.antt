@@ -10,20 +10,10 @@ abbrev with_mesh : Lane → Mesh → Lane
 with_mesh lane mesh = record lane { mesh = mesh }
 
 ready_with : {G : Type 0} (admits : G → ℕ → ℕ → Type 0) (gate : G) (end : ℕ) (mesh : Mesh) (lane : Lane) → MayGo admits gate end mesh lane → MayGo admits gate end mesh (with_mesh lane mesh)
-ready_with admits gate end mesh lane h = record {
-  whole = h.whole;
-  sound = h.sound;
-  ahead = h.ahead;
-  within = h.within;
-  patches = h.patches;
-  kept = h.kept;
-  some_workers = h.some_workers;
-  few_workers = h.few_workers;
-  admitted = h.admitted;
-}
+ready_with admits gate end mesh lane h = record { steps = h.steps; some_workers = h.some_workers; few_workers = h.few_workers; admitted = h.admitted }
 
 gone_with : (end : ℕ) (old : Mesh) (before : Lane) (mesh : Mesh) (lane : Lane) (left : Mesh) → HasGone end old (with_mesh before old) mesh lane → HasGone end old before mesh (with_mesh lane left)
-gone_with end old before mesh lane left h = record { problem = h.problem; workers = h.workers; value = h.value; whole = h.whole; patches = h.patches; kept = h.kept }
+gone_with end old before mesh lane left h = record { problem = h.problem; workers = h.workers; steps = h.steps }
 
 pub all_ready : {G : Type 0} (admits : G → ℕ → ℕ → Type 0) (gate : G) (end : ℕ) (ms : List Mesh) (before : List Lane) (left : List Mesh) (lanes : List Lane) → length lanes ≡ length ms
     → HaveChanged ms before left lanes → AtEach (MayGo admits gate end) ms before → All (λ lane. MayGo admits gate end lane.mesh lane) lanes

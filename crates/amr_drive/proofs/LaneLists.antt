@@ -18,7 +18,7 @@ use Rattle.amr_patch.specs.Meshes.{is_spent, state_of}
 use Rattle.amr_cycle.specs.Kept.{IsKeptFor}
 use Rattle.amr_drive.specs.declared.lanes.Lane.{Lane}
 use Rattle.amr_drive.specs.Flocks.{AreMeshesOf, IsInPatchesOf, problems_of}
-use Rattle.amr_drive.specs.Lanes.{AtEach, HasForgotten, HasGone, HaveGone, IsNewLane, MayGo, StandsAt, stepped_to}
+use Rattle.amr_drive.specs.Lanes.{AtEach, HasForgotten, HasGone, HaveGone, IsNewLane, MayGo, MayStep, StandsAt, stepped_to}
 use Rattle.amr_drive.proofs.StepsTo.{stepped_to_step}
 
 -- an element of a list that has some
@@ -110,12 +110,14 @@ module _ (p : Problem) (workers step : ℕ) (ms : List Mesh) (lanes : List Lane)
       let lane = stands.lanes_are k d e lt in
       let own = sym lane.problem in
       record {
-        whole = stands.meshes.whole k d lt;
-        sound = subst (λ (q : Problem). IsSound q (state_of mesh)) own (sound_of_species p k (state_of mesh) (sound_at k d lt));
-        ahead = omega (arith, step_at k d lt, ahead);
-        within = subst (λ (q : Problem). end ≤ q.steps) own within;
-        patches = subst (λ (q : Problem). IsInPatchesOf q mesh) own (stands.meshes.patches k d lt);
-        kept = subst (λ (q : Problem). IsKeptFor q (state_of mesh).levels (slice_index_or lanes k e).kept) own lane.kept;
+        steps = subst (λ (q : Problem). MayStep q end mesh (slice_index_or lanes k e).kept) own (record {
+          whole = stands.meshes.whole k d lt;
+          sound = sound_of_species p k (state_of mesh) (sound_at k d lt);
+          ahead = omega (arith, step_at k d lt, ahead);
+          within = within;
+          patches = stands.meshes.patches k d lt;
+          kept_is = lane.kept;
+        });
         some_workers = lane.some_workers;
         few_workers = omega (arith, lane.few_workers, few);
         admitted = λ worker task below. gates worker task (omega (arith, below, lane.few_workers));
@@ -129,7 +131,7 @@ module _ (p : Problem) (workers step : ℕ) (ms : List Mesh) (lanes : List Lane)
     each_gone k d lt =
         let e = pick lanes k (omega (arith, lt, stands.one_each)) in
         let s = state_of (slice_index_or ms k d) in
-        (gone k d e lt).value ∙ ap (λ (q : Problem). times (stepped q) (end - s.step) s) (stands.lanes_are k d e lt).problem
+        (gone k d e lt).steps.value ∙ ap (λ (q : Problem). times (stepped q) (end - s.step) s) (stands.lanes_are k d e lt).problem
         ∙ ap (λ n. times (stepped (of_species p k)) (end - n) s) (step_at k d lt)
 
     pub states_gone : map state_of ns ≡ each_from (λ i s. times (stepped (of_species p i)) (end - step) s) 0 (map state_of ms)
@@ -144,7 +146,7 @@ module _ (p : Problem) (workers step : ℕ) (ms : List Mesh) (lanes : List Lane)
         first_step ns (omega (arith, some_meshes, count)) end (λ d.
         let e = pick lanes 0 (omega (arith, some_meshes, stands.one_each)) in
         let s = state_of (slice_index_or ms 0 d) in
-        ap (λ (t : State). t.step) (gone 0 d e some_meshes).value
+        ap (λ (t : State). t.step) (gone 0 d e some_meshes).steps.value
         ∙ stepped_to_step (slice_index_or lanes 0 e).problem.now s end (omega (arith, step_at 0 d some_meshes, ahead)))
 
     pub stands_then : step ≤ end → IsFlock p (map state_of ns) → StandsAt p workers end ns news
@@ -154,12 +156,12 @@ module _ (p : Problem) (workers step : ℕ) (ms : List Mesh) (lanes : List Lane)
         whole = λ k d lt.
             let in_all : k < length ms = omega (arith, lt, count) in
             let e = pick lanes k (omega (arith, in_all, stands.one_each)) in
-            (gone k d e in_all).whole;
+            (gone k d e in_all).steps.whole;
         states = flock;
         patches = λ k d lt.
             let in_all : k < length ms = omega (arith, lt, count) in
             let e = pick lanes k (omega (arith, in_all, stands.one_each)) in
-            subst (λ (q : Problem). IsInPatchesOf q (slice_index_or ns k d)) (stands.lanes_are k d e in_all).problem (gone k d e in_all).patches;
+            subst (λ (q : Problem). IsInPatchesOf q (slice_index_or ns k d)) (stands.lanes_are k d e in_all).problem (gone k d e in_all).steps.patches;
       };
       step_is = gone_step ahead;
       one_each = lane_count ∙ stands.one_each ∙ sym count;
@@ -170,7 +172,7 @@ module _ (p : Problem) (workers step : ℕ) (ms : List Mesh) (lanes : List Lane)
             problem = new.problem ∙ lane.problem;
             some_workers = omega (arith, new.workers, lane.some_workers);
             few_workers = omega (arith, new.workers, lane.few_workers);
-            kept = subst (λ (q : Problem). IsKeptFor q (state_of (slice_index_or ns k d)).levels (slice_index_or news k e).kept) lane.problem new.kept;
+            kept = subst (λ (q : Problem). IsKeptFor q (state_of (slice_index_or ns k d)).levels (slice_index_or news k e).kept) lane.problem new.steps.kept_is;
           };
     }
 

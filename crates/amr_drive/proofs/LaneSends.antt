@@ -1,5 +1,6 @@
 -- A lane may go to another thread, with its mesh and what is kept of it.
 use denote.RattleType.{RattleType}
+use denote.Ref.{NamedLft}
 use denote.Param.Send.{IsSend, sendable}
 use denote.Param.SendFields.{as_row_send, declared_send}
 use Rattle.std.specs.contracts.snapshot.Snapshot.{the_row as snapshot_row}
@@ -26,6 +27,7 @@ use Rattle.amr_advance.specs.contracts.kept.KeptLayout.{the_row as kept_layout_r
 use Rattle.amr_cycle.specs.contracts.kept.KeptBelow.{the_row as below_row, the_type as below_type}
 use Rattle.amr_cycle.specs.contracts.kept.KeptLevel.{the_row as kept_level_row, the_type as kept_level_type}
 use Rattle.amr_cycle.specs.contracts.kept.Kept.{the_row as kept_row, the_type as kept_type}
+use Rattle.amr_drive.specs.contracts.lanes.Lane.{the_row as lane_row, the_type as lane_type}
 use Rattle.amr_patch.proofs.patches.Patch.TheSendSync.{the_send as patch_send}
 use Rattle.amr_patch.proofs.levels.Level.TheSendSync.{the_send as level_send}
 use Rattle.amr_patch.proofs.meshes.Mesh.TheSendSync.{the_send as mesh_send}
@@ -57,7 +59,10 @@ below_send = declared_send below_type (search parts depth 12 fits 2000, (search 
 kept_level_send : IsSend kept_level_row
 kept_level_send = declared_send kept_level_type (search (parts, kept_layout_send) depth 12 fits 2000, (search (parts, below_send) depth 12 fits 2000, tt))
 
-pub kept_send : IsSend kept_row
+kept_send : IsSend kept_row
 kept_send = declared_send kept_type (search (parts, kept_level_send) depth 12 fits 2000, tt)
 
-pub ruleset lanes_sendable = (kept_send, mesh_send, problem_sync, parts)
+pub lane_send : (a : NamedLft) → IsSend (lane_row a)
+lane_send a = declared_send (lane_type a) (search (parts, problem_sync) depth 12 fits 2000, (search parts depth 12 fits 2000, (search (parts, kept_send) depth 12 fits 2000, (search (parts, mesh_send) depth 12 fits 2000, (search parts depth 12 fits 2000, tt)))))
+
+pub ruleset lanes_sendable = (lane_send, sendable)

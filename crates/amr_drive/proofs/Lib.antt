@@ -10,7 +10,9 @@ mod LaneLists
 mod DueRegrids
 mod GoneOn
 mod LaneChanges
+mod OnlyMesh
 mod Written
+mod Lent
 mod LaneShares
 mod LaneSends
 mod FlockStarts

@@ -36,17 +36,19 @@ other_block k b isnt = ap (λ t. map alone (cond t (b ∷ []) [])) (sym test)
     test : (b.species == k) ≡ false
     test = grind (arith, nat_tests)
 
-pub blocks_more : (k : ℕ) (bs : List Block) (i : ℕ) (b : Block) (own more : List Block) → i < length bs → b ≡ get_or bs i b → own ≡ blocks_of k (take i bs) → more ≡ own ++ blocks_of k (b ∷ [])
+pub blocks_more : (k : ℕ) (bs : List Block) (i : ℕ) (d : Block) (own more : List Block) → i < length bs → own ≡ blocks_of k (take i bs) → more ≡ own ++ blocks_of k (get_or bs i d ∷ [])
     → more ≡ blocks_of k (take (i + 1) bs)
-blocks_more k bs i b own more lt is so_far pushed =
-    pushed ∙ ap (λ (xs : List Block). xs ++ blocks_of k (b ∷ [])) so_far ∙ ap (λ (c : Block). blocks_of k (take i bs) ++ map alone (cond (is_of k c) (c ∷ []) [])) is
-    ∙ sym (ap (map alone) (filter_more (is_of k) bs i b lt) ∙ map-append alone (filter (is_of k) (take i bs)) (cond (is_of k (get_or bs i b)) (get_or bs i b ∷ []) []))
+blocks_more k bs i d own more lt so_far pushed =
+    pushed ∙ ap (λ (xs : List Block). xs ++ blocks_of k (get_or bs i d ∷ [])) so_far
+    ∙ sym (ap (map alone) (filter_more (is_of k) bs i d lt) ∙ map-append alone (filter (is_of k) (take i bs)) (cond (is_of k (get_or bs i d)) (get_or bs i d ∷ []) []))
 
 -- ---- the whole problem
 
 -- what is made anew
 pub record Parts : Type 0 where
   pub name : List ℕ
+  pub cx : ℤ
+  pub cy : ℤ
   pub shear_x : List ℤ
   pub shear_y : List ℤ
   pub x_sides : Sides
@@ -56,7 +58,7 @@ pub record Parts : Type 0 where
 
 abbrev pub LimitsWith : Problem → Parts → Type 0
 LimitsWith p f =
-    Limits p.version f.name p.nx p.ny p.steps p.cx p.cy p.d f.shear_x f.shear_y f.x_sides f.y_sides p.max_level f.tag p.n_error_buf p.efficiency p.min_width
+    Limits p.version f.name p.nx p.ny p.steps f.cx f.cy p.d f.shear_x f.shear_y f.x_sides f.y_sides p.max_level f.tag p.n_error_buf p.efficiency p.min_width
     p.regrid_int p.blocking p.max_grid_size f.blocks 1
 
 -- limits have one proof
@@ -66,6 +68,8 @@ limits_once p f = hlevel props
 abbrev pub with_parts : (p : Problem) (f : Parts) → LimitsWith p f → Problem
 with_parts p f l = record p {
   name = f.name;
+  cx = f.cx;
+  cy = f.cy;
   shear_x = f.shear_x;
   shear_y = f.shear_y;
   x_sides = f.x_sides;
@@ -77,7 +81,17 @@ with_parts p f l = record p {
 }
 
 abbrev pub parts_of : Problem → ℕ → Parts
-parts_of p k = record { name = p.name; shear_x = p.shear_x; shear_y = p.shear_y; x_sides = sides_of k p.x_sides; y_sides = sides_of k p.y_sides; tag = p.tag; blocks = blocks_of k p.blocks }
+parts_of p k = record {
+  name = p.name;
+  cx = p.cx;
+  cy = p.cy;
+  shear_x = p.shear_x;
+  shear_y = p.shear_y;
+  x_sides = sides_of k p.x_sides;
+  y_sides = sides_of k p.y_sides;
+  tag = p.tag;
+  blocks = blocks_of k p.blocks;
+}
 
 -- limits of its parts, and that it is the problem of the species
 pub limits_with : (p : Problem) (k : ℕ) (f : Parts) → f ≡ parts_of p k → LimitsWith p f
@@ -89,7 +103,7 @@ species_with p k f is =
     subst (λ (h : Parts). (l : LimitsWith p h) → with_parts p h l ≡ with_parts p (parts_of p k) (limits_of_species p k)) (sym is)
     (λ l. ap (with_parts p (parts_of p k)) (limits_once p (parts_of p k) l (limits_of_species p k)))
 
-pub same_parts : (p : Problem) (k : ℕ) (f : Parts) → f.name ≡ p.name → f.shear_x ≡ p.shear_x → f.shear_y ≡ p.shear_y → f.x_sides ≡ sides_of k p.x_sides
+pub same_parts : (p : Problem) (k : ℕ) (f : Parts) → f.name ≡ p.name → f.cx ≡ p.cx → f.cy ≡ p.cy → f.shear_x ≡ p.shear_x → f.shear_y ≡ p.shear_y → f.x_sides ≡ sides_of k p.x_sides
     → f.y_sides ≡ sides_of k p.y_sides → f.tag ≡ p.tag → f.blocks ≡ blocks_of k p.blocks → f ≡ parts_of p k
-same_parts p k f name shear_x shear_y x_sides y_sides tag blocks i =
-    record { name = name i; shear_x = shear_x i; shear_y = shear_y i; x_sides = x_sides i; y_sides = y_sides i; tag = tag i; blocks = blocks i }
+same_parts p k f name cx cy shear_x shear_y x_sides y_sides tag blocks i =
+    record { name = name i; cx = cx i; cy = cy i; shear_x = shear_x i; shear_y = shear_y i; x_sides = x_sides i; y_sides = y_sides i; tag = tag i; blocks = blocks i }

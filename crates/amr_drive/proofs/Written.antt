@@ -27,8 +27,8 @@ one_written {X} Wanted olds xs k y inside wanted h = record { done = done; left 
     left j d le = get_or-set_other xs k j y d (omega arith) ∙ h.left j d (omega arith)
 
 -- the next one as it was
-pub still_there : {X : Type 0} (Wanted : ℕ → X → X → Type 0) (olds xs : List X) (k : ℕ) (x : X) → k < length olds → x ≡ get_or xs k x → WrittenTo Wanted olds xs k → (d : X) → x ≡ get_or olds k d
-still_there Wanted olds xs k x inside is h d = is ∙ h.left k x (omega arith) ∙ get_or_default olds k x d inside
+pub still_there : {X : Type 0} (Wanted : ℕ → X → X → Type 0) (olds xs : List X) (k : ℕ) (x : X) → k < length olds → WrittenTo Wanted olds xs k → (d : X) → get_or xs k x ≡ get_or olds k d
+still_there Wanted olds xs k x inside h d = h.left k x (omega arith) ∙ get_or_default olds k x d inside
 
 -- ---- a list that is made by pushes
 

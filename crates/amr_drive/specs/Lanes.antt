@@ -7,6 +7,7 @@ use Rattle.amr_def.specs.Run.{regrid_is_due, stepped, times}
 use Rattle.amr_def.specs.Species.{first_state, of_species, regrid_all, step_of}
 use Rattle.amr_patch.specs.declared.meshes.Mesh.{Mesh}
 use Rattle.amr_patch.specs.Meshes.{is_spent, state_of}
+use Rattle.amr_cycle.specs.declared.kept.Kept.{Kept}
 use Rattle.amr_cycle.specs.Kept.{IsKeptFor}
 use Rattle.amr_drive.specs.declared.lanes.Lane.{Lane}
 use Rattle.amr_drive.specs.Flocks.{AreMeshesOf, IsInPatchesOf}
@@ -22,25 +23,33 @@ AtEach R ms lanes = (k : ℕ) (d : Mesh) (e : Lane) → k < length ms → R (sli
 -- ---- one species
 
 -- its steps may be made up to this one
-pub record MayGo {G : Type 0} (admits : G → ℕ → ℕ → Type 0) (gate : G) (end : ℕ) (mesh : Mesh) (lane : Lane) : Type 0 where
+pub record MayStep (p : Problem) (end : ℕ) (mesh : Mesh) (kept : Kept) : Type 0 where
   pub whole : is_spent mesh ≡ false
-  pub sound : IsSound lane.problem.now (state_of mesh)
+  pub sound : IsSound p (state_of mesh)
   pub ahead : (state_of mesh).step ≤ end
-  pub within : end ≤ lane.problem.now.steps
-  pub patches : IsInPatchesOf lane.problem.now mesh
-  pub kept : IsKeptFor lane.problem.now (state_of mesh).levels lane.kept
+  pub within : end ≤ p.steps
+  pub patches : IsInPatchesOf p mesh
+  pub kept_is : IsKeptFor p (state_of mesh).levels kept
+
+-- they were made from this mesh
+pub record HasStepped (p : Problem) (end : ℕ) (old mesh : Mesh) (kept : Kept) : Type 0 where
+  pub value : state_of mesh ≡ stepped_to p (state_of old) end
+  pub whole : is_spent mesh ≡ false
+  pub patches : IsInPatchesOf p mesh
+  pub kept_is : IsKeptFor p (state_of mesh).levels kept
+
+-- its workers may make them
+pub record MayGo {G : Type 0} (admits : G → ℕ → ℕ → Type 0) (gate : G) (end : ℕ) (mesh : Mesh) (lane : Lane) : Type 0 where
+  pub steps : MayStep lane.problem.now end mesh lane.kept
   pub some_workers : 1 ≤ lane.workers
   pub few_workers : lane.workers ≤ 64
   pub admitted : (worker task : ℕ) → worker < lane.workers → admits gate worker task
 
--- they were made
+-- they made them
 pub record HasGone (end : ℕ) (old : Mesh) (before : Lane) (mesh : Mesh) (lane : Lane) : Type 0 where
   pub problem : lane.problem.now ≡ before.problem.now
   pub workers : lane.workers ≡ before.workers
-  pub value : state_of mesh ≡ stepped_to before.problem.now (state_of old) end
-  pub whole : is_spent mesh ≡ false
-  pub patches : IsInPatchesOf before.problem.now mesh
-  pub kept : IsKeptFor before.problem.now (state_of mesh).levels lane.kept
+  pub steps : HasStepped before.problem.now end old mesh lane.kept
 
 -- ---- all species
 

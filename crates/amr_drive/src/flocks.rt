@@ -64,6 +64,7 @@ impl Flock {
     }
 
     /// The meshes, by the numbers of their species.
+    #[tactic(auto, unfolding(crate::specs::Flocks::meshes_of))]
     pub fn meshes(&self) -> &[Mesh]
         ensures { result.now ≡ meshes_of self.now }
     {

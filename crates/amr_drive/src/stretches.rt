@@ -1,15 +1,10 @@
 //! The steps of species from one regrid that is due to the next.
 
-ghost use Rattle.std.specs.Prelude.{◌≡◌, ◌<◌, ◌≤◌, ℕ, false, length, slice_index_or, true, OnOk};
+ghost use Rattle.std.specs.Prelude.{◌≡◌, ◌<◌, ℕ, length, slice_index_or, true, OnOk};
 ghost use Rattle.std.specs.List.{All};
-ghost use Rattle.amr_def.specs.Facts.{IsSound};
-ghost use Rattle.amr_patch.specs.Meshes.{is_spent, levels_of, state_of};
-ghost use Rattle.amr_start.specs.PatchBoxes.{IsChopped};
 ghost use Rattle.amr_advance.specs.Crews.{MayRun};
-ghost use Rattle.amr_cycle.specs.Cycles.{AreCoarsenableAbove};
-ghost use Rattle.amr_cycle.specs.Kept.{IsKeptFor};
 ghost use Rattle.amr_drive.specs.declared.lanes.Lane.{Lane};
-ghost use Rattle.amr_drive.specs.Lanes.{AtEach, HasGone, HaveGone, MayGo, stepped_to};
+ghost use Rattle.amr_drive.specs.Lanes.{AtEach, HasGone, HasStepped, HaveGone, MayGo, MayStep};
 
 use crate::lanes::{Lane, all_done, change_all};
 use crate::nexts::make_plain_step;
@@ -30,17 +25,9 @@ fn make_plain_steps<R: Threads + Wait + Sync, G: Gate + Sync>(
     kept: &mut Kept,
     end: u32,
 ) -> Result<(), NoMemory>
-    requires whole { is_spent mesh.old ≡ false }
-    requires sound { IsSound p.now (state_of mesh.old) }
-    requires ahead { (state_of mesh.old).step ≤ end }
-    requires within { end ≤ p.now.steps }
-    requires coarsenable { AreCoarsenableAbove (levels_of mesh.old) }
-    requires kept { IsKeptFor p.now (state_of mesh.old).levels kept.old }
+    requires steps { MayStep p.now end mesh.old kept.old }
     requires crew { (tasks : ℕ) → MayRun G.admits p.now tasks workers.old }
-    ensures value { OnOk result (state_of mesh.new ≡ stepped_to p.now (state_of mesh.old) end) }
-    ensures whole { OnOk result (is_spent mesh.new ≡ false) }
-    ensures patches { OnOk result (All (IsChopped p.now.max_grid_size) (levels_of mesh.old) → All (IsChopped p.now.max_grid_size) (levels_of mesh.new)) }
-    ensures kept { OnOk result (IsKeptFor p.now (state_of mesh.new).levels kept.new) }
+    ensures { OnOk result (HasStepped p.now end mesh.old mesh.new kept.new) }
 {
     for _step in mesh.step()..end {
         make_plain_step(workers, p, mesh, kept)?;

@@ -8,6 +8,8 @@ ghost use Rattle.amr_advance.specs.Crews.{MayRun};
 ghost use Rattle.amr_drive.specs.Flocks.{AreMeshesOf, IsFlockOf, problems_of, states_of};
 ghost use Rattle.amr_drive.specs.Lanes.{IsRegriddedIfDue, StandsAt};
 
+use crate::after::Nothing;
+use crate::drives::drive;
 use crate::flocks::Flock;
 use crate::lanes::{Lane, forget_all, lanes_of};
 use crate::nexts::is_due;
@@ -126,6 +128,42 @@ fn step_in(meshes: &[Mesh]) -> u32
     meshes[0].step()
 }
 
+/// Makes the steps of the only species there is: those of a run, by workers who last from the first step to the last.
+fn drive_only<R: Threads + Wait + Sync, G: Gate + Sync>(
+    workers: &Workers<'_, R, G>,
+    alloc: Global,
+    p: &Problem,
+    target: u32,
+    meshes: &mut [Mesh],
+) -> Result<(), NoMemory>
+    requires crew { (tasks : ℕ) → MayRun G.admits p.now tasks workers.now }
+    requires only { length meshes.old ≡ 1 }
+    requires meshes { AreMeshesOf p.now meshes.old }
+    requires ahead { step_of (map state_of meshes.old) ≤ target }
+    requires within { target ≤ p.now.steps }
+    ensures value { OnOk result (map state_of meshes.new ≡ finish_all p.now (map state_of meshes.old) target) }
+    ensures meshes { OnOk result (AreMeshesOf p.now meshes.new) }
+{
+    let crew = Crew {
+        ranks: 1,
+        workers: workers.count,
+    };
+    let driven = drive(
+        workers.runtime,
+        alloc,
+        p,
+        &mut meshes[0],
+        target,
+        crew,
+        workers.gate,
+        &mut Nothing,
+    );
+    match driven {
+        Ok(()) => Ok(()),
+        Err(_) => Err(NoMemory),
+    }
+}
+
 /// Makes the steps of all species up to a step, by the problems of each alone.
 fn drive_meshes<R: Threads + Wait + Sync, G: Gate + Sync>(
     workers: &Workers<'_, R, G>,
@@ -143,6 +181,9 @@ fn drive_meshes<R: Threads + Wait + Sync, G: Gate + Sync>(
     ensures value { OnOk result (map state_of meshes.new ≡ finish_all p.now (map state_of meshes.old) target) }
     ensures meshes { OnOk result (AreMeshesOf p.now meshes.new) }
 {
+    if meshes.len() == 1 {
+        return drive_only(workers, alloc, p, target, meshes);
+    }
     let mut lanes = lanes_of(alloc, problems, workers.count)?;
     let mut step = step_in(meshes);
     while step < target {
@@ -161,8 +202,8 @@ fn drive_meshes<R: Threads + Wait + Sync, G: Gate + Sync>(
 
 /// Makes the steps of all species up to step `target`. Before a step all are regridded together, where that is due: at each step above 0
 /// that is a multiple of `regrid_int`. Until the next one each goes by itself. The workers are shared out among the species, who go side by
-/// side; where there are fewer workers than species, some go in turn. The outcome is the same for any number of workers, whoever
-/// draws which task.
+/// side; where there are fewer workers than species, some go in turn. One species alone goes as [`drive`] has it go. The outcome is the
+/// same for any number of workers, whoever draws which task.
 ///
 /// `NoMemory` is the only refusal. After it the flock is spent: it is only dropped, and nothing is promised of it. The crew has one rank,
 /// and from 1 to 64 workers. The call joins its workers, and keeps this promise if it returns.

@@ -32,13 +32,15 @@ use Rattle.amr_trial.proofs.Problems.{one_species, sixteen_steps}
 use Rattle.amr_trial.proofs.Accepted.{no_fault}
 use Rattle.amr_checkpoint.specs.declared.refusal.Refusal.{Refusal}
 use Rattle.amr_checkpoint.specs.Contents.{Content, Holds}
-use Rattle.amr_run.specs.Answer.{IsLineOfProblem, IsLineOfTrial, IsPlotOfRun, IsSoundRun, IsViewOfRun, stop_of}
+use Rattle.amr_run.specs.Answer.{IsLineOfProblem, IsLineOfTrial, IsPlotOfRun, IsSoundRun, IsViewOfRun, seen_state, stop_of}
 use Rattle.amr_run.specs.Outcome.{EndsAtSource, EndsByLine, Outcome, RefusesStored, RepliesBy, RepliesTo, status_of}
 use Rattle.amr_run.specs.Sources.{ReadsBy, RefusesBy, TakesAtMost}
 use Rattle.amr_run.specs.Table.{HasAnswer, IsGiven, JudgesBatch, JudgesProblem, JudgesStorable, JudgesView, Meaning, TellsAccepted, meaning, run_meaning, trial_row, view_row}
 use Rattle.amr_run.specs.Refusals.{judge_refused, read_refused}
 use Rattle.amr_run.specs.Texts.{message, problem_line}
 use Rattle.amr_run.specs.Views.{bad_view, box_of}
+use Rattle.amr_run.proofs.Seen.{is_seen}
+use Rattle.amr_view.proofs.AddUp.{views_add_up}
 use Rattle.amr_run.specs.declared.status.Status.{Status}
 use Rattle.amr_run.specs.declared.status.Status.TheVariants as status
 use Rattle.amr_run.specs.declared.views.ViewPart.{ViewPart}
@@ -173,13 +175,18 @@ unseen asked r bytes seen p outside is accepted bad = refused_by (view_row asked
 -- of the state of a species
 pub is_view_of_run : (bytes : List ℕ) (asked : ViewOptions) (p : Problem) (last : List State) (s : State) (b : Extent) → IsProblemOf bytes p → bad_view asked p ≡ None → b ≡ box_of asked.corners → last ≡ run_all p p.steps
     → s ≡ get_or last asked.species no_state → IsSoundRun p p.steps → IsViewOfRun bytes asked (view s asked.level b)
-is_view_of_run bytes asked p last s b accepted inside box is of_species sound = record {
-  problem = p;
-  accepted = accepted;
-  inside = inside;
-  text = ap (λ (t : State). view t asked.level b) (of_species ∙ ap (λ (ss : List State). get_or ss asked.species no_state) is) ∙ ap (view (get_or (run_all p p.steps) asked.species no_state) asked.level) box;
-  run = sound;
-}
+is_view_of_run bytes asked p last s b accepted inside box is of_species sound =
+    let own : get_or last asked.species no_state ≡ seen_state asked p = ap (λ (ss : List State). get_or ss asked.species no_state) is in
+    let t : State = seen_state asked p in
+    let given : asked.species < length (run_all p p.steps) = omega (arith, (is_seen asked p inside).species, sound.sound.one_each) in
+    record {
+      problem = p;
+      accepted = accepted;
+      inside = inside;
+      text = ap (λ (u : State). view u asked.level b) (of_species ∙ own) ∙ ap (view t asked.level) box;
+      whole = λ l. views_add_up p t l (sound.sound.alike.sound asked.species no_state given);
+      run = sound;
+    }
 
 -- ---- a trial
 

@@ -1,5 +1,5 @@
 -- What a problem has that has a view.
-use Rattle.std.proofs.Common.{◌≡◌, ◌<◌, ◌≤◌, Bool, true, false, not, Option, Some, None, nat_le, nat_lt, if◌then◌else◌, refl, sym, subst}
+use Rattle.std.proofs.Common.{◌≡◌, ◌<◌, ◌≤◌, Bool, true, false, not, Some, None, nat_le, nat_lt, if◌then◌else◌, refl, sym, subst}
 use Rattle.std.proofs.lemmas.Bool.{and_parts, leb-false, ltb-false}
 use Rattle.std.proofs.lemmas.Option.{none-some}
 use Rattle.amr_box.specs.declared.Cell.{Cell}
@@ -10,7 +10,6 @@ use Rattle.amr_def.specs.Domain.{domain, in_domain}
 use Rattle.amr_payload.specs.Tests.{lies_in}
 use Rattle.amr_payload.proofs.GridLevels.{box_inside}
 use Rattle.amr_run.specs.Views.{bad_view, box_of, is_box_in}
-use Rattle.amr_run.specs.declared.views.ViewPart.{ViewPart}
 use Rattle.amr_run.specs.declared.views.ViewPart.TheVariants as part
 
 pub record IsSeen (asked : ViewOptions) (p : Problem) : Type 0 where

@@ -6,7 +6,7 @@ use Rattle.amr_def.specs.Run as runs
 use Rattle.amr_def.specs.Plot as plots
 use Rattle.amr_def.specs.Species.{IsFlock, no_state, run_all, start_all}
 use Rattle.amr_def.specs.View.{view}
-use Rattle.amr_def.specs.Facts.{IsSound}
+use Rattle.amr_def.specs.Facts.{IsSound, row_at}
 use Rattle.amr_def.specs.State.{State}
 use Rattle.amr_problem.specs.Judgement.{IsProblemOf}
 use Rattle.amr_trial.specs.Summary.{summary_line}
@@ -17,6 +17,7 @@ use Rattle.amr_checkpoint.specs.Refusals.{GoesOn}
 use Rattle.amr_cli.specs.declared.command.ViewOptions.{ViewOptions}
 use Rattle.amr_drive.specs.Regrids.{RunHoldsTags, StartHoldsTags}
 use Rattle.amr_run.specs.Regrids.{RunHoldsAllTags, StartHoldsAllTags}
+use Rattle.amr_view.specs.Laws.{finest_total}
 use Rattle.amr_run.specs.Texts.{problem_line}
 use Rattle.amr_run.specs.Views.{bad_view, box_of}
 
@@ -45,13 +46,18 @@ pub record IsPlotOfRun (bytes : List ℕ) (to : Option ℕ) (out : List ℕ) : T
   pub text : out ≡ plots.plot_all problem (run_all problem (stop_of to problem))
   pub run : IsSoundRun problem (stop_of to problem)
 
+-- the state of the species that is asked for, after the last step of the run
+abbrev pub seen_state : ViewOptions → Problem → State
+seen_state asked p = slice_index_or (run_all p p.steps) asked.species no_state
+
 -- These bytes are the rows of a box, by the finest masses of a species after the last step of the run of the problem that the bytes of the
--- source are, which has such a view.
+-- source are, which has such a view. At every level the finest masses of all cells make up the mass of the last row of its ledger.
 pub record IsViewOfRun (bytes : List ℕ) (asked : ViewOptions) (out : List ℕ) : Type 0 where
   pub problem : Problem
   pub accepted : IsProblemOf bytes problem
   pub inside : bad_view asked problem ≡ None
-  pub text : out ≡ view (slice_index_or (run_all problem problem.steps) asked.species no_state) asked.level (box_of asked.corners)
+  pub text : out ≡ view (seen_state asked problem) asked.level (box_of asked.corners)
+  pub whole : (l : ℕ) → finest_total problem (seen_state asked problem) l ≡ (row_at (seen_state asked problem) (seen_state asked problem).step).mass
   pub run : IsSoundRun problem problem.steps
 
 -- what a disk holds, where it tells what it reads

@@ -25,9 +25,9 @@ use std::thread::Threads;
 
 /// Does what the words ask for: reads a problem from `src` and writes the answer of the command to `out`, or says on
 /// `err` why not. The answer of `run` is the plot of the problem's run, and that of `check` the line of the problem.
-/// That of `show` is the plot of the state that `disk` holds, and that of `view` the masses of a box after the run. The steps of a run are made by as many workers as the
-/// words say, on threads of the runtime; the answer is the same for any number. The call joins them, and keeps its
-/// promise if it returns.
+/// That of `show` is the plot of the state that `disk` holds, and that of `view` the masses of a box after the run.
+/// The steps of a run are made by as many workers as the words say, on threads of the runtime; the answer is the same
+/// for any number. The call joins them, and keeps its promise if it returns.
 ///
 /// With `--keep` a run goes on from the state that `disk` holds, and puts a checkpoint there at each mark. It
 /// acknowledges it on `err` by a line once it stands. A stop at any moment since the store was opened leaves the last

@@ -1,6 +1,6 @@
 //! Tasks shared out among workers.
 
-use amr_batch::share;
+use amr_balance::share;
 use std::test::Fail;
 
 /// Loads of 5, 4 and 3 on two workers: the greatest is 7, and twice that is no more than all loads and the greatest task, 12 and 5.

@@ -4,7 +4,8 @@ use Rattle.std.specs.List.{list_all, range_with_len}
 use Rattle.std.specs.Prelude.{Some}
 use Rattle.std.proofs.lemmas.Int.{ints}
 use Rattle.toml.specs.Data.{Members}
-use Rattle.amr_problem.specs.declared.key.Key.TheVariants.{Steps}
+use Rattle.amr_problem.specs.declared.key.Key.{Key}
+use Rattle.amr_problem.specs.declared.key.Key.TheVariants.{Steps, Species}
 use Rattle.amr_def.specs.declared.problem.Problem.{Problem}
 use Rattle.amr_def.specs.declared.problem.Block.{Block}
 use Rattle.amr_def.specs.declared.problem.Sides.TheVariants.{Periodic, Open}
@@ -176,11 +177,19 @@ texts_are_accepted number size small is =
       },
     )
 
--- ---- its steps
+-- ---- its steps and its species
+
+-- a number of the text is the one of the document
+one_number : (number size : ℕ) (key : Key) (given own : ℕ) → number < 2 ^ 32 → IsSize size → number_at (table_of (text number size)) key ≡ Some (pos given) → number_at (document number size) key ≡ Some (pos own) → given ≡ own
+one_number number size key given own small is there defined =
+    let here : number_at (document number size) key ≡ Some (pos given) = subst (λ (t : Members). number_at t key ≡ Some (pos given)) (is_table number size small is) there in
+    let same : pos given ≡ pos own = cc in
+    omega (arith, ints, same)
 
 pub sixteen_steps : (number size : ℕ) (p : Problem) → number < 2 ^ 32 → IsSize size → IsProblemOf (text number size) p → p.steps ≡ 16
 sixteen_steps number size p small is problem =
-    let own : number_at (document number size) Steps ≡ Some (pos p.steps) = subst (λ (t : Members). number_at t Steps ≡ Some (pos p.steps)) (is_table number size small is) problem.keys.steps in
-    let defined : number_at (document number size) Steps ≡ Some (pos 16) = (has_keys number size (limits number size small is)).steps in
-    let same : pos p.steps ≡ pos 16 = cc in
-    omega (arith, ints, same)
+    one_number number size Steps p.steps 16 small is problem.keys.steps (has_keys number size (limits number size small is)).steps
+
+pub one_species : (number size : ℕ) (p : Problem) → number < 2 ^ 32 → IsSize size → IsProblemOf (text number size) p → p.species ≡ 1
+one_species number size p small is problem =
+    one_number number size Species p.species 1 small is problem.keys.species (has_keys number size (limits number size small is)).species

@@ -1,5 +1,5 @@
 use Rattle.std.proofs.Common.{ℕ, All}
-use Rattle.amr_batch.specs.Shares.{lists_in}
+use Rattle.amr_balance.specs.Shares.{lists_in}
 use Rattle.amr_batch.specs.Replies.{AreTasks, HasTasks}
 use Rattle.amr_batch.proofs.replies.lots_of.Given as goal
 

@@ -1,5 +1,5 @@
 use Rattle.std.proofs.Common.{◌≡◌, ℕ, All, length, sym, subst, arith}
-use Rattle.amr_batch.specs.Shares.{lists_in}
+use Rattle.amr_balance.specs.Shares.{lists_in}
 use Rattle.amr_batch.specs.Replies.{HasTasks}
 use Rattle.amr_batch.proofs.LotTasks.{share_tasks}
 use Rattle.amr_batch.proofs.replies.run_all.Goals as goal

@@ -1,11 +1,11 @@
-use Rattle.std.proofs.Common.{◌≡◌, ◌∙◌, ◌++◌, ◌∷◌, [], false, map, subst, sym, ap, arith}
+use Rattle.std.proofs.Common.{ℕ, ◌≡◌, ◌∙◌, ◌++◌, ◌∷◌, [], false, map, subst, sym, ap, arith}
 use Rattle.std.specs.List.{All, range_with_len}
 use Rattle.std.proofs.lemmas.List.Elements.{All-nil, All-same, All-push}
 use Rattle.amr_def.specs.Run.{plain_start}
 use Rattle.amr_def.specs.Species.{of_species}
 use Rattle.amr_patch.specs.declared.meshes.Mesh.{Mesh}
 use Rattle.amr_patch.specs.Meshes.{is_spent, state_of}
-use Rattle.amr_drive.specs.Flocks.{IsInPatchesOf}
+use Rattle.amr_drive.specs.Flocks.{IsInPatchesOf, meshes_of}
 use Rattle.amr_drive.proofs.FlockStarts.{base_patches, base_state, bases_flock, made_more, states_more}
 use Rattle.amr_drive.proofs.flocks.bases.Goals as goal
 
@@ -26,3 +26,17 @@ loop-k-preserved c =
       patches = All-same (IsInPatchesOf p) c.push.new.self.items (c.loop-k.meshes.items ++ mesh ∷ []) meshes
           (All-push (IsInPatchesOf p) c.loop-k.meshes.items mesh inv.patches (base_patches p k own mesh c.in_ok-own.ensures c.in_ok-mesh.ensures.value c.in_ok-mesh.ensures.patches));
     }
+
+pub returns-clause-value : goal.returns-clause-value
+unfolding meshes_of
+returns-clause-value c =
+    let p = c.args.p.now in
+    let last : c.loop-k.k ≡ p.species = omega arith in
+    c.loop-k.invariant.states ∙ ap (λ n. map (λ (j : ℕ). plain_start (of_species p j)) (range_with_len 0 n)) last
+
+pub returns-clause-flock : goal.returns-clause-flock
+returns-clause-flock c =
+    let p = c.args.p.now in
+    let inv = c.loop-k.invariant in
+    let last : c.loop-k.k ≡ p.species = omega arith in
+    bases_flock p _ (inv.problems ∙ ap (λ n. map (of_species p) (range_with_len 0 n)) last) (inv.states ∙ ap (λ n. map (λ (j : ℕ). plain_start (of_species p j)) (range_with_len 0 n)) last) inv.whole inv.patches

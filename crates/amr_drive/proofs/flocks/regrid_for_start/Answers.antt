@@ -8,13 +8,13 @@ pub loop-regrid-init : goal.loop-regrid-init
 loop-regrid-init c = record { states = all_begun c.args.p.now (map state_of c.args.meshes.now); meshes = c.requires }
 
 pub regrid_all-requires-clause-some : goal.regrid_all-requires-clause-some
-regrid_all-requires-clause-some c κs within = some_of c.args.p.now c.loop-regrid.meshes c.loop-regrid.invariant.meshes
+regrid_all-requires-clause-some c = some_of c.args.p.now c.loop-regrid.meshes c.loop-regrid.invariant.meshes
 
 pub regrid_all-requires-clause-whole : goal.regrid_all-requires-clause-whole
-regrid_all-requires-clause-whole c κs within = c.loop-regrid.invariant.meshes.whole
+regrid_all-requires-clause-whole c = c.loop-regrid.invariant.meshes.whole
 
 pub regrid_all-requires-clause-alike : goal.regrid_all-requires-clause-alike
-regrid_all-requires-clause-alike c κs within = c.loop-regrid.invariant.meshes.states.alike
+regrid_all-requires-clause-alike c = c.loop-regrid.invariant.meshes.states.alike
 
 pub loop-regrid-preserved : goal.loop-regrid-preserved
 loop-regrid-preserved c =

@@ -19,8 +19,8 @@ loop-k-preserved c =
     let inv = c.loop-k.invariant in
     let out = λ (j : ℕ) (d mesh : Mesh). (e : Lane) → mesh ≡ (slice_index_or before j e).mesh in
     let into = λ (j : ℕ) (e lane : Lane). (d : Mesh) → lane ≡ record (slice_index_or before j e) { mesh = slice_index_or olds j d } in
-    let mesh_was = still_there out olds c.loop-k.meshes k c.index-meshes-k.result (omega arith) c.index-meshes-k.is inv.out in
-    let lane_was = still_there into before c.loop-k.lanes k c.index-lanes-k.result (omega arith) c.index-lanes-k.is inv.into in
+    let mesh_was = still_there out olds c.loop-k.meshes k c.index-meshes-k.result (omega arith) inv.out in
+    let lane_was = still_there into before c.loop-k.lanes k c.index-lanes-k.result (omega arith) inv.into in
     record {
       out = one_written out olds c.loop-k.meshes k c.change.new.mesh (omega arith) (λ d e. c.change.ensures.mesh ∙ ap (λ (lane : Lane). lane.mesh) (lane_was e)) inv.out;
       into = one_written into before c.loop-k.lanes k c.change.new.lane (omega arith)

@@ -15,7 +15,7 @@ loop-k-preserved c =
     let k = c.loop-k.k in
     let wanted = λ (j : ℕ) (e lane : Lane). HasForgotten (slice_index_or olds j e) lane in
     one_written wanted olds lanes k c.forget.new.lane (omega arith)
-    (λ d. subst (λ (x : Lane). HasForgotten x c.forget.new.lane) (still_there wanted olds lanes k c.index-lanes-k.result (omega arith) c.index-lanes-k.is c.loop-k.invariant d) c.forget.ensures)
+    (λ d. subst (λ (x : Lane). HasForgotten x c.forget.new.lane) (still_there wanted olds lanes k c.index-lanes-k.result (omega arith) c.loop-k.invariant d) c.forget.ensures)
     c.loop-k.invariant
 
 pub returns : goal.returns

@@ -1,4 +1,4 @@
-use Rattle.std.proofs.Common.{◌≡◌, ◌∙◌, ◌++◌, ◌∷◌, [], List, ap, length, refl, subst, sym, arith}
+use Rattle.std.proofs.Common.{◌≡◌, ◌∙◌, ◌++◌, ◌∷◌, [], List, ap, length, subst, sym, arith, rules}
 use Rattle.std.specs.Prelude.{slice_index_or}
 use Rattle.std.proofs.lemmas.List.{get_or_default, length_push}
 use Rattle.amr_def.specs.declared.problem.Problem.{Problem}
@@ -8,7 +8,7 @@ use Rattle.amr_drive.proofs.Written.{one_pushed}
 use Rattle.amr_drive.proofs.lanes.lanes_of.Goals as goal
 
 pub loop-k-init : goal.loop-k-init
-loop-k-init c = record { count = refl; new = λ k p e lt. absurd (omega (arith, lt)) }
+loop-k-init c = record { count = search rules; new = λ k p e lt. absurd (omega (arith, lt)) }
 
 pub loop-k-preserved : goal.loop-k-preserved
 loop-k-preserved c =
@@ -32,4 +32,7 @@ loop-k-preserved c =
     }
 
 pub returns : goal.returns
-returns c = ?
+returns c = record {
+  one_each = omega (arith, c.loop-k.invariant.count);
+  new = λ k p e lt. c.loop-k.invariant.new k p e (omega (arith, lt));
+}

@@ -5,7 +5,7 @@ use Rattle.amr_drive.proofs.LaneLists.{first_mesh}
 use Rattle.amr_drive.proofs.together.step_in.Goals as goal
 
 pub step-requires : goal.step-requires
-step-requires c κs within = subst (λ (m : Mesh). is_spent m ≡ false) (sym c.index-meshes-0.is) (c.requires.whole 0 c.index-meshes-0.result c.requires.some)
+step-requires c = subst (λ (m : Mesh). is_spent m ≡ false) (sym c.index-meshes-0.is) (c.requires.whole 0 c.index-meshes-0.result c.requires.some)
 
 pub returns : goal.returns
 returns c = c.step.ensures ∙ first_mesh c.args.meshes.now c.index-meshes-0.result c.requires.some c.index-meshes-0.is

@@ -1,6 +1,6 @@
-use Rattle.amr_batch.specs.Shares.{lists_in}
-use Rattle.amr_batch.proofs.SoFar.{AreEmpty}
-use Rattle.amr_batch.proofs.balance.empty_lots.Given as goal
+use Rattle.amr_balance.specs.Shares.{lists_in}
+use Rattle.amr_balance.proofs.SoFar.{AreEmpty}
+use Rattle.amr_balance.proofs.empty_lots.Given as goal
 
 -- as many empty lots as turns were made
 abbrev pub invariant-loop : goal.invariant-loop

@@ -1,7 +1,7 @@
 use Rattle.std.proofs.Common.{[], ◌+◌, subst, sym, ◌∙◌, ap}
-use Rattle.amr_batch.specs.Shares.{lists_in}
-use Rattle.amr_batch.proofs.SoFar.{AreEmpty, one_more_empty, lists_push}
-use Rattle.amr_batch.proofs.balance.empty_lots.Goals as goal
+use Rattle.amr_balance.specs.Shares.{lists_in}
+use Rattle.amr_balance.proofs.SoFar.{AreEmpty, one_more_empty, lists_push}
+use Rattle.amr_balance.proofs.empty_lots.Goals as goal
 
 pub loop-preserved : goal.loop-preserved
 loop-preserved c =

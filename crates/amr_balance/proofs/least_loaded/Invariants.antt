@@ -1,6 +1,6 @@
 use Rattle.std.proofs.Common.{slice_index}
-use Rattle.amr_batch.specs.Shares.{IsLeast}
-use Rattle.amr_batch.proofs.balance.least_loaded.Given as goal
+use Rattle.amr_balance.specs.Shares.{IsLeast}
+use Rattle.amr_balance.proofs.least_loaded.Given as goal
 
 -- the least of the loads that were looked at
 abbrev pub invariant-loop-w : goal.invariant-loop-w

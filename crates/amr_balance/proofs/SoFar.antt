@@ -4,10 +4,10 @@ use Rattle.std.proofs.lemmas.Bool.Decides.{eqb_tells}
 use Rattle.std.proofs.lemmas.List.Sums.{sum_by-take-le}
 use Rattle.std.proofs.lemmas.List.{length-set, get_or-set_same, get_or-set_other, take_all, map-append}
 use Rattle.std.specs.Global.{Vec}
-use Rattle.amr_batch.specs.Shares.{Owner, IsLeast, IsFair, IsShare, IsBalanced, tasks_of, load, load_of, largest, lists_in}
-use Rattle.amr_batch.proofs.Owners.{with_owner, owner_new, owner_old, tasks_same, load_more}
-use Rattle.amr_batch.proofs.Loads.{loads_together, taken_more, part_of, sum_to}
-use Rattle.amr_batch.proofs.Balance.{balanced}
+use Rattle.amr_balance.specs.Shares.{Owner, IsLeast, IsFair, IsShare, IsBalanced, tasks_of, load, load_of, largest, lists_in}
+use Rattle.amr_balance.proofs.Owners.{with_owner, owner_new, owner_old, tasks_same, load_more}
+use Rattle.amr_balance.proofs.Loads.{loads_together, taken_more, part_of, sum_to}
+use Rattle.amr_balance.proofs.Balance.{balanced}
 
 pub record IsSoFar (areas : List ℕ) (workers n : ℕ) (loads : List ℕ) (lots : List (List ℕ)) : Type 0 where
   pub owner : Owner

@@ -2,7 +2,7 @@
 use Rattle.std.proofs.Common.{◌≡◌, ℕ, zero, suc, ◌+◌, ◌<◌, ◌==◌, cond, true, false, List, [], ◌∷◌, ◌++◌, get_or, map, sum, refl, ap, arith, eq-eqb, ne_eqb}
 use Rattle.std.proofs.lemmas.List.{map-append}
 use Rattle.std.proofs.lemmas.List.Sums.{sum_by-append}
-use Rattle.amr_batch.specs.Shares.{Owner, tasks_of, load}
+use Rattle.amr_balance.specs.Shares.{Owner, tasks_of, load}
 
 -- the owners of before, and of task n
 abbrev pub with_owner : Owner → ℕ → ℕ → Owner

@@ -1,7 +1,8 @@
 //! Tasks shared out among workers in advance (list scheduling; Graham 1966).
+#![tactic(auto)]
 
 ghost use Rattle.std.specs.Prelude.{◌≡◌, ℕ, ◌^◌, ◌<◌, ◌≤◌, length, slice_index, slice_index_or, [], sum, IfOk};
-ghost use Rattle.amr_batch.specs.Shares.{IsBalanced, IsLeast, IsShare, lists_in};
+ghost use Rattle.amr_balance.specs.Shares.{IsBalanced, IsLeast, IsShare, lists_in};
 
 use amr_causes::NoMemory;
 use std::alloc::Global;

@@ -3,9 +3,9 @@ use Rattle.std.proofs.Common.{◌≡◌, ℕ, zero, suc, ◌+◌, ◌*◌, ◌<�
 use Rattle.std.proofs.Math.Nat.{mul-le-mul_left}
 use Rattle.std.proofs.lemmas.Bool.Decides.{eqb_tells}
 use Rattle.std.proofs.lemmas.List.{take_more}
-use Rattle.amr_batch.specs.Shares.{Owner, IsLeast, IsFair, load, largest}
-use Rattle.amr_batch.proofs.Owners.{load_more}
-use Rattle.amr_batch.proofs.Loads.{loads_together, taken_more, least_is_low}
+use Rattle.amr_balance.specs.Shares.{Owner, IsLeast, IsFair, load, largest}
+use Rattle.amr_balance.proofs.Owners.{load_more}
+use Rattle.amr_balance.proofs.Loads.{loads_together, taken_more, least_is_low}
 
 -- the largest of some areas and one more
 largest-append : (xs : List ℕ) (a : ℕ) → largest (xs ++ a ∷ []) ≡ max (largest xs) a

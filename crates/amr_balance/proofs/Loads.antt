@@ -4,8 +4,8 @@ use Rattle.std.proofs.Math.Numerals.{lt_of_le_of_ne}
 use Rattle.std.proofs.lemmas.Bool.Decides.{eqb_tells}
 use Rattle.std.proofs.lemmas.List.{take_more}
 use Rattle.std.proofs.lemmas.List.Sums.{sum_by_push}
-use Rattle.amr_batch.specs.Shares.{Owner, IsLeast, load}
-use Rattle.amr_batch.proofs.Owners.{load_more}
+use Rattle.amr_balance.specs.Shares.{Owner, IsLeast, load}
+use Rattle.amr_balance.proofs.Owners.{load_more}
 
 -- f 0 + .. + f (n - 1)
 abbrev pub sum_to : (ℕ → ℕ) → ℕ → ℕ

@@ -1,6 +1,6 @@
-use Rattle.amr_batch.specs.Shares.{lists_in}
-use Rattle.amr_batch.proofs.SoFar.{IsSoFar}
-use Rattle.amr_batch.proofs.balance.share.Given as goal
+use Rattle.amr_balance.specs.Shares.{lists_in}
+use Rattle.amr_balance.proofs.SoFar.{IsSoFar}
+use Rattle.amr_balance.proofs.share.Given as goal
 
 -- the tasks so far are shared out
 abbrev pub invariant-loop-k : goal.invariant-loop-k

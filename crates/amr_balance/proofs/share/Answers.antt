@@ -2,9 +2,9 @@ use Rattle.std.proofs.Common.{◌≡◌, ℕ, suc, ◌+◌, ◌<◌, ◌∙◌, 
 use Rattle.std.proofs.Math.Facts.{Fits-of_lt}
 use Rattle.std.proofs.lemmas.List.{get_or_default, get_or-map, length-map, map-set}
 use Rattle.std.specs.Global.{Vec}
-use Rattle.amr_batch.specs.Shares.{IsLeast, lists_in}
-use Rattle.amr_batch.proofs.SoFar.{IsSoFar, none_so_far, one_so_far, load_small, shared_evenly, zeros}
-use Rattle.amr_batch.proofs.balance.share.Goals as goal
+use Rattle.amr_balance.specs.Shares.{IsLeast, lists_in}
+use Rattle.amr_balance.proofs.SoFar.{IsSoFar, none_so_far, one_so_far, load_small, shared_evenly, zeros}
+use Rattle.amr_balance.proofs.share.Goals as goal
 
 pub loop-k-init : goal.loop-k-init
 loop-k-init c =

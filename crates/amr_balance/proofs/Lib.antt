@@ -1,0 +1,4 @@
+mod Owners
+mod Loads
+mod Balance
+mod SoFar
