@@ -1,4 +1,4 @@
 pub mod AddUp
 pub mod Laying
-pub mod Strips
+pub mod WidenedRows
 pub mod Lines

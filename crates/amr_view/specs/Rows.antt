@@ -6,8 +6,8 @@ use Rattle.amr_box.specs.Cells.{Extent, cell}
 use Rattle.amr_def.specs.State.{Masses, State}
 use Rattle.amr_def.specs.View.{finest_mass}
 
--- a row that has the cells of level l in some columns of level 0: from column `first` up to before `after`
-pub record IsStrip (l : ℕ) (row : Extent) : Type 0 where
+-- a row of level l over whole columns of level 0: from column `first` up to before `after`
+pub record HasWholeColumns (l : ℕ) (row : Extent) : Type 0 where
   pub first : ℕ
   pub after : ℕ
   pub west : row.lo.x ≡ pos (first * 2 ^ l)

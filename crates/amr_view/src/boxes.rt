@@ -11,7 +11,7 @@ ghost use Rattle.amr_io.specs.Short.{FallsShort};
 ghost use Rattle.amr_patch.specs.Meshes.{is_spent, state_of};
 ghost use Rattle.amr_plot.specs.Pens.{Puts};
 ghost use Rattle.amr_plot.specs.Texts.{masses_text};
-ghost use Rattle.amr_view.specs.Rows.{IsStrip};
+ghost use Rattle.amr_view.specs.Rows.{HasWholeColumns};
 
 use crate::rows::fill_row;
 use amr_box::{Bx, Cell, distance};
@@ -39,13 +39,13 @@ fn whole_columns(l: u32, low: u32, high: u32) -> (u32, u32)
     (first << l, (last + 1) << l)
 }
 
-/// Row `y` of level `l`, over those columns of level 0 that the box meets.
-fn strip(p: &Problem, l: u32, b: &Bx, y: i32) -> Bx
+/// Row `y` of the box, widened to whole columns of level 0.
+fn widened_row(p: &Problem, l: u32, b: &Bx, y: i32) -> Bx
     requires fine { l ≤ 4 }
     requires inside { (c : Cell) → IsTrue (holds b.now c) → IsTrue (in_domain (domain p.now l) c) }
     requires low { b.now.lo.y ≤ℤ y }
     requires high { y ≤ℤ b.now.hi.y }
-    ensures strip { IsStrip l result }
+    ensures columns { HasWholeColumns l result }
     ensures near { IsNear result }
     ensures narrow { width result ≤ 4096 }
     ensures row { result.lo.y ≡ y }
@@ -83,10 +83,10 @@ fn find_row(
     ensures within { result + width b.now ≤ length masses.new }
     ensures masses { (k : ℕ) → k < width b.now → slice_index masses.new (result + k) ≡ finest_mass (state_of mesh.now) l (cell (b.now.lo.x +ℤ pos k) y) }
 {
-    let strip = strip(p, l, b, y);
-    let width = strip.width() as usize;
-    fill_row(mesh, l, &strip, &mut masses[..width], spare);
-    distance(strip.lo().x, b.lo().x)
+    let row = widened_row(p, l, b, y);
+    let width = row.width() as usize;
+    fill_row(mesh, l, &row, &mut masses[..width], spare);
+    distance(row.lo().x, b.lo().x)
 }
 
 /// Puts a row of masses, and the end of the line.

@@ -4,7 +4,7 @@ ghost use Rattle.std.specs.Prelude.{◌≡◌, ◌*◌, ◌≤◌, false, length
 ghost use Rattle.amr_box.specs.Cells.{IsNear, width};
 ghost use Rattle.amr_def.specs.Regrid.{odd};
 ghost use Rattle.amr_patch.specs.Meshes.{is_spent, state_of};
-ghost use Rattle.amr_view.specs.Rows.{AreFinest, IsStrip};
+ghost use Rattle.amr_view.specs.Rows.{AreFinest, HasWholeColumns};
 
 use crate::laid::lay;
 use amr_box::Bx;
@@ -24,7 +24,7 @@ fn odd(z: i32) -> u32
 pub(crate) fn fill_row(mesh: &Mesh, l: u32, row: &Bx, masses: &mut [u32], spare: &mut [u32])
     requires whole { is_spent mesh.now ≡ false }
     requires near { IsNear row.now }
-    requires strip { IsStrip l row.now }
+    requires columns { HasWholeColumns l row.now }
     requires width { length masses.old ≡ width row.now }
     requires spare { length masses.old ≤ 2 * length spare.old }
     ensures { AreFinest (state_of mesh.now) l row.now masses.new }

@@ -10,16 +10,16 @@ use Rattle.amr_patch.specs.Meshes.{state_of}
 use Rattle.amr_view.proofs.boxes.find_row.Goals as goal
 
 pub slice_bounds-fill_row-end : goal.slice_bounds-fill_row-end
-slice_bounds-fill_row-end c = omega (arith, c.width-width.ensures.value, c.strip-strip.ensures.narrow, c.requires.masses)
+slice_bounds-fill_row-end c = omega (arith, c.width-width.ensures.value, c.widened_row-row.ensures.narrow, c.requires.masses)
 
 pub fill_row-requires-clause-width : goal.fill_row-requires-clause-width
-fill_row-requires-clause-width c = length-take c.width-width.result c.args.masses.now ∙ omega (arith, c.width-width.ensures.value, c.strip-strip.ensures.narrow, c.requires.masses)
+fill_row-requires-clause-width c = length-take c.width-width.result c.args.masses.now ∙ omega (arith, c.width-width.ensures.value, c.widened_row-row.ensures.narrow, c.requires.masses)
 
 pub fill_row-requires-clause-spare : goal.fill_row-requires-clause-spare
 fill_row-requires-clause-spare c = omega (arith, length-take c.width-width.result c.args.masses.now, c.requires.masses, c.requires.spare)
 
 pub distance-requires : goal.distance-requires
-distance-requires c = omega (arith, ints, c.strip-strip.ensures.west, c.lo.ensures.x, c.lo-2.ensures.x)
+distance-requires c = omega (arith, ints, c.widened_row-row.ensures.west, c.lo.ensures.x, c.lo-2.ensures.x)
 
 pub returns-clause-within : goal.returns-clause-within
 returns-clause-within c =
@@ -27,20 +27,20 @@ returns-clause-within c =
     let w = c.width-width.result in
     let masses = c.args.masses.now in
     let rest = drop w masses in
-    let long : length (c.fill_row.new.masses ++ rest) ≡ 4096 = omega (arith, length-append c.fill_row.new.masses rest, c.fill_row.auto.masses, length-take w masses, length-drop w masses, c.width-width.ensures.value, c.strip-strip.ensures.narrow, c.requires.masses) in
-    omega (arith, ints, long, c.distance.ensures.value, c.lo.ensures.x, c.lo-2.ensures.x, (sides c.args.b.now near).wide, c.strip-strip.ensures.east, c.strip-strip.ensures.narrow, (sides c.strip-strip.result c.strip-strip.ensures.near).wide)
+    let long : length (c.fill_row.new.masses ++ rest) ≡ 4096 = omega (arith, length-append c.fill_row.new.masses rest, c.fill_row.auto.masses, length-take w masses, length-drop w masses, c.width-width.ensures.value, c.widened_row-row.ensures.narrow, c.requires.masses) in
+    omega (arith, ints, long, c.distance.ensures.value, c.lo.ensures.x, c.lo-2.ensures.x, (sides c.args.b.now near).wide, c.widened_row-row.ensures.east, c.widened_row-row.ensures.narrow, (sides c.widened_row-row.result c.widened_row-row.ensures.near).wide)
 
 pub returns-clause-masses : goal.returns-clause-masses
 returns-clause-masses c k lt =
     let s = state_of c.args.mesh.now in
     let b = c.args.b.now in
-    let strip = c.strip-strip.result in
+    let row = c.widened_row-row.result in
     let from = c.distance.result in
     let near = (corners c.args.p.now c.args.l b c.requires.fine c.lo-2.ensures.proper c.requires.inside).near in
-    let long : length c.fill_row.new.masses ≡ width strip = omega (arith, c.fill_row.auto.masses, length-take c.width-width.result c.args.masses.now, c.width-width.ensures.value, c.strip-strip.ensures.narrow, c.requires.masses) in
-    let row : strip.lo.y ≡ c.args.y = c.strip-strip.ensures.row ∙ omega (arith, ints) in
-    let below : from + k < length c.fill_row.new.masses = omega (arith, ints, lt, long, c.distance.ensures.value, c.lo.ensures.x, c.lo-2.ensures.x, (sides b near).wide, c.strip-strip.ensures.east, (sides strip c.strip-strip.ensures.near).wide) in
-    let x : strip.lo.x +ℤ pos (from + k) ≡ b.lo.x +ℤ pos k = omega (arith, ints, c.distance.ensures.value, c.lo.ensures.x, c.lo-2.ensures.x) in
+    let long : length c.fill_row.new.masses ≡ width row = omega (arith, c.fill_row.auto.masses, length-take c.width-width.result c.args.masses.now, c.width-width.ensures.value, c.widened_row-row.ensures.narrow, c.requires.masses) in
+    let at_y : row.lo.y ≡ c.args.y = c.widened_row-row.ensures.row ∙ omega (arith, ints) in
+    let below : from + k < length c.fill_row.new.masses = omega (arith, ints, lt, long, c.distance.ensures.value, c.lo.ensures.x, c.lo-2.ensures.x, (sides b near).wide, c.widened_row-row.ensures.east, (sides row c.widened_row-row.ensures.near).wide) in
+    let x : row.lo.x +ℤ pos (from + k) ≡ b.lo.x +ℤ pos k = omega (arith, ints, c.distance.ensures.value, c.lo.ensures.x, c.lo-2.ensures.x) in
     get_or_append_left c.fill_row.new.masses (drop c.width-width.result c.args.masses.now) 0 (from + k) below
     ∙ c.fill_row.ensures (from + k) below
-    ∙ ap (finest_mass s c.args.l) (same_cell x row)
+    ∙ ap (finest_mass s c.args.l) (same_cell x at_y)

@@ -1,6 +1,6 @@
 use Rattle.std.proofs.Common.{◌+◌, ◌/◌, ◌^◌, arith}
 use Rattle.std.proofs.lemmas.Nat.{shl_whole}
-use Rattle.amr_view.proofs.Strips.{power_some, quotient_small, round_down, round_up, up_to_room}
+use Rattle.amr_view.proofs.WidenedRows.{power_some, quotient_small, round_down, round_up, up_to_room}
 use Rattle.amr_view.proofs.boxes.whole_columns.Goals as goal
 
 pub returns-clause-first : goal.returns-clause-first

@@ -2,8 +2,8 @@ use Rattle.std.proofs.Common.{◌≡◌, ◌∙◌, ◌<◌, pos, ◌+ℤ◌, ap
 use Rattle.std.proofs.lemmas.Int.{ints}
 use Rattle.amr_box.specs.Cells.{Extent}
 use Rattle.amr_patch.proofs.Corners.{corners}
-use Rattle.amr_view.proofs.Strips.{IsStripOver, columns_small, strip_over}
-use Rattle.amr_view.proofs.boxes.strip.Goals as goal
+use Rattle.amr_view.proofs.WidenedRows.{IsWidenedRow, columns_small, widened}
+use Rattle.amr_view.proofs.boxes.widened_row.Goals as goal
 
 pub overflow_cast-low : goal.overflow_cast-low
 overflow_cast-low c =
@@ -57,6 +57,6 @@ returns c =
     let east : row.hi.x +ℤ pos 1 ≡ pos after = ap (λ (e : Extent). e.hi.x +ℤ pos 1) is ∙ omega (arith, ints, some, columns.room) in
     let south : row.lo.y ≡ c.args.y = ap (λ (e : Extent). e.lo.y) is ∙ omega (arith, ints) in
     let north : row.hi.y ≡ c.args.y = ap (λ (e : Extent). e.hi.y) is ∙ omega (arith, ints) in
-    let over : IsStripOver c.args.l b row = strip_over c.args.l b row _ _ first after c.args.y columns.first columns.after columns.west columns.east columns.room
+    let over : IsWidenedRow c.args.l b row = widened c.args.l b row _ _ first after c.args.y columns.first columns.after columns.west columns.east columns.room
     (omega (arith, ints, k.0, k.1, proper.wide, c.lo-low.ensures.x)) (omega (arith, ints, k.0, k.1, proper.wide, c.hi-high.ensures.x)) proper c.requires.low c.requires.high near west east south north in
-    record { strip = over.strip; near = over.near; narrow = over.narrow; row = south; west = over.west; east = over.east }
+    record { columns = over.columns; near = over.near; narrow = over.narrow; row = south; west = over.west; east = over.east }

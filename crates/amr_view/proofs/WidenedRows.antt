@@ -20,34 +20,34 @@ use Rattle.amr_def.proofs.Sizes.{doubled_small}
 use Rattle.amr_def.proofs.Uncovered.{half-double}
 use Rattle.amr_patch.proofs.Rows.{is_inside, sides}
 use Rattle.amr_transfer.proofs.Halves.{share_is}
-use Rattle.amr_view.specs.Rows.{AreFinest, AreLaid, IsStrip, cell_at}
+use Rattle.amr_view.specs.Rows.{AreFinest, AreLaid, HasWholeColumns, cell_at}
 
 -- ---- parents
 
-module _ (l : ℕ) (row up : Extent) (strip : IsStrip (suc l) row) (corners : HasCorners up (half row.lo.x) (half row.lo.y) (half row.hi.x) (half row.hi.y)) where
-  parents_west : up.lo.x ≡ pos (strip.first * 2 ^ l)
-  parents_west = corners.west_is ∙ ap half (strip.west ∙ ap pos (twice_as_many strip.first l)) ∙ half-double (pos (strip.first * 2 ^ l))
+module _ (l : ℕ) (row up : Extent) (columns : HasWholeColumns (suc l) row) (corners : HasCorners up (half row.lo.x) (half row.lo.y) (half row.hi.x) (half row.hi.y)) where
+  parents_west : up.lo.x ≡ pos (columns.first * 2 ^ l)
+  parents_west = corners.west_is ∙ ap half (columns.west ∙ ap pos (twice_as_many columns.first l)) ∙ half-double (pos (columns.first * 2 ^ l))
 
-  parents_east : up.hi.x +ℤ pos 1 ≡ pos (strip.after * 2 ^ l)
-  parents_east = omega (arith, ints, corners.east_is, strip.east, twice_as_many strip.after l, half_and_odd row.hi.x, odd_small row.hi.x)
+  parents_east : up.hi.x +ℤ pos 1 ≡ pos (columns.after * 2 ^ l)
+  parents_east = omega (arith, ints, corners.east_is, columns.east, twice_as_many columns.after l, half_and_odd row.hi.x, odd_small row.hi.x)
 
   -- the parents are those in the same columns of level 0
-  pub strip_parents : IsStrip l up
-  strip_parents = record {
-    first = strip.first;
-    after = strip.after;
+  pub parents_whole : HasWholeColumns l up
+  parents_whole = record {
+    first = columns.first;
+    after = columns.after;
     west = parents_west;
     east = parents_east;
-    flat = corners.north_is ∙ ap half strip.flat ∙ sym corners.south_is;
+    flat = corners.north_is ∙ ap half columns.flat ∙ sym corners.south_is;
   }
 
   pub even_west : odd row.lo.x ≡ 0
-  even_west = omega (arith, ints, strip.west, twice_as_many strip.first l, half_and_odd row.lo.x, odd_small row.lo.x)
+  even_west = omega (arith, ints, columns.west, twice_as_many columns.first l, half_and_odd row.lo.x, odd_small row.lo.x)
 
   -- there are half as many
   pub half_wide : IsNear row → IsNear up → width row ≡ 2 * width up
   half_wide near near_up =
-      omega (arith, ints, (sides row near).wide, (sides up near_up).wide, strip.west, strip.east, parents_west, parents_east, twice_as_many strip.first l, twice_as_many strip.after l)
+      omega (arith, ints, (sides row near).wide, (sides up near_up).wide, columns.west, columns.east, parents_west, parents_east, twice_as_many columns.first l, twice_as_many columns.after l)
 
   -- the shares that a row of parents with their finest masses gives
   pub shares_are : (s : State) (parents shares : List ℕ) (y : ℕ) → AreFinest s l up parents → length shares ≡ 2 * length parents → y ≡ odd row.lo.y
@@ -105,16 +105,16 @@ columns_small p l b fine proper inside_domain =
     (first.west, omega (arith, ints, last.east, doubled_small p.nx l p.limits.greatest_nx fine))
 
 -- what the row over whole columns of level 0 is that a box meets
-pub record IsStripOver (l : ℕ) (b row : Extent) : Type 0 where
-  pub strip : IsStrip l row
+pub record IsWidenedRow (l : ℕ) (b row : Extent) : Type 0 where
+  pub columns : HasWholeColumns l row
   pub near : IsNear row
   pub narrow : width row ≤ 4096
   pub west : row.lo.x ≤ℤ b.lo.x
   pub east : b.hi.x ≤ℤ row.hi.x
 
-pub strip_over : (l : ℕ) (b row : Extent) (lo hi low after : ℕ) (y : ℤ) → low ≡ lo / 2 ^ l * 2 ^ l → after ≡ (hi / 2 ^ l + 1) * 2 ^ l → low ≤ lo → hi < after → after ≤ 4096 → pos lo ≡ b.lo.x → pos hi ≡ b.hi.x → IsProper b → b.lo.y ≤ℤ y → y ≤ℤ b.hi.y → IsNear b
-    → row.lo.x ≡ pos low → row.hi.x +ℤ pos 1 ≡ pos after → row.lo.y ≡ y → row.hi.y ≡ y → IsStripOver l b row
-strip_over l b row lo hi low after y low_is after_is down up room lo_is hi_is proper from to near_b west_end east_end bottom top =
+pub widened : (l : ℕ) (b row : Extent) (lo hi low after : ℕ) (y : ℤ) → low ≡ lo / 2 ^ l * 2 ^ l → after ≡ (hi / 2 ^ l + 1) * 2 ^ l → low ≤ lo → hi < after → after ≤ 4096 → pos lo ≡ b.lo.x → pos hi ≡ b.hi.x → IsProper b → b.lo.y ≤ℤ y → y ≤ℤ b.hi.y → IsNear b
+    → row.lo.x ≡ pos low → row.hi.x +ℤ pos 1 ≡ pos after → row.lo.y ≡ y → row.hi.y ≡ y → IsWidenedRow l b row
+widened l b row lo hi low after y low_is after_is down up room lo_is hi_is proper from to near_b west_end east_end bottom top =
     let west : row.lo.x ≤ℤ b.lo.x = omega (arith, ints, west_end, lo_is, down) in
     let east : b.hi.x ≤ℤ row.hi.x = omega (arith, ints, east_end, hi_is, up) in
     let near : IsNear row = record {
@@ -126,7 +126,7 @@ strip_over l b row lo hi low after y low_is after_is down up room lo_is hi_is pr
       high = omega (arith, ints, bottom, top);
     } in
     record {
-      strip = record {
+      columns = record {
         first = lo / 2 ^ l;
         after = hi / 2 ^ l + 1;
         west = west_end ∙ ap pos low_is;
