@@ -1,1 +1,4 @@
 pub mod Rules
+mod Parcels
+mod Taking
+mod UnderWay

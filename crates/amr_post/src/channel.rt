@@ -7,10 +7,10 @@ ghost use Rattle.amr_ranks.specs.Items.{total};
 ghost use Rattle.amr_ranks.specs.Letters.{LetterOf};
 ghost use Rattle.amr_post.specs.Rounds.{hand, rooms, HasLeft};
 
+use amr_causes::NoMemory;
 use amr_ranks::Letter;
 use crossbeam_channel::protocol::{Join, Lesson, Outcome, Protocol, Split};
 use crossbeam_channel::{Pass, RuledReceiver, RuledSender, TrySendError, bounded_with};
-use amr_causes::NoMemory;
 use std::alloc::Global;
 use std::collections::LinkedList;
 use std::sync::Wait;

@@ -3,3 +3,6 @@
 #![tactic(auto)]
 
 mod channel;
+mod post;
+
+pub use post::Post;
