@@ -134,3 +134,10 @@ module _ (first : NodeOf) (all ls : List LetterOf) (same : AreSame all ls) (e : 
 
     pub all_ready : is_ready n ≡ true
     all_ready = subst (λ (d : NodeOf). is_ready d ≡ true) (sym u.has) (ready first ls e u.taken (λ w. all_taken w ∙ same w))
+
+-- what is left to get, after one more
+pub left_on : (v : Hand) (l : LetterOf) (left : HasLeft v l) (weight : LetterOf → ℕ) → total weight v.sent ≡ total weight (v.got ++ l ∷ []) + total weight left.0
+left_on v l left weight =
+    let a = left.1 weight in
+    let b : total weight (v.got ++ l ∷ []) ≡ total weight v.got + (weight l + 0) = total-append weight v.got (l ∷ []) in
+    omega arith
