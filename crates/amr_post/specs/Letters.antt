@@ -1,12 +1,13 @@
 -- Letters on their way to one rank, and what its node has of them.
-use Rattle.std.specs.Prelude.{◌≡◌, ℕ, ◌+◌, ◌-◌, ◌^◌, ◌<◌, ◌≤◌, ◌++◌, IsTrue, List, [], length, map, option_to_list}
+use Rattle.std.specs.Prelude.{◌≡◌, true, ℕ, ◌+◌, ◌-◌, ◌^◌, ◌<◌, ◌≤◌, ◌++◌, IsTrue, List, [], length, map, option_to_list}
 use Rattle.std.specs.List.{All, flat_map, range_with_len}
 use Rattle.crossbeam_channel.specs.Claims.{view, IsSeatAt}
 use Rattle.crossbeam_channel.specs.Ends.{receives_on, ruled_capacity, sends_on}
 use Rattle.amr_ranks.specs.declared.item.Item.{Item}
 use Rattle.amr_ranks.specs.Items.{total, times, has_word, count_at}
 use Rattle.amr_ranks.specs.Letters.{LetterOf, numbers_of, cells_of, shares_of}
-use Rattle.amr_ranks.specs.Nodes.{NodeOf, fresh_node}
+use Rattle.amr_ranks.specs.Laws.{HasJust}
+use Rattle.amr_ranks.specs.Nodes.{NodeOf, fresh_node, is_ready}
 use Rattle.amr_post.specs.declared.post.Parcel.{Parcel}
 use Rattle.amr_post.specs.declared.post.Post.{Post}
 use Rattle.amr_post.specs.Rounds.{hand, rooms}
@@ -62,3 +63,15 @@ pub record IsUnderWay (first : NodeOf) (all rest sent got : List LetterOf) (n : 
   pub taken : List LetterOf
   pub has : n ≡ having first taken
   pub letters : (weight : LetterOf → ℕ) → total weight taken + total weight sent + total weight rest ≡ total weight got + total weight all
+
+-- the letters of a post may go to this node
+pub record MayDeliver (p : Post) (n : NodeOf) : Type 0 where
+  pub post : IsPost p
+  pub letters : List LetterOf
+  pub same : AreSame (letters_in p.parcels.items) letters
+  pub expects : Expects n letters
+
+-- they went: it has just these, all of them
+pub record HasDelivered (p : Post) (n : NodeOf) : Type 0 where
+  pub ready : is_ready n ≡ true
+  pub just : (letters : List LetterOf) → AreSame (letters_in p.parcels.items) letters → HasJust n (length n.totals) letters

@@ -1,15 +1,15 @@
 //! A rank's letters of a round, from those who send them to its node.
 
-ghost use Rattle.std.specs.Prelude.{◌≡◌, ◌+◌, ◌-◌, ◌∷◌, ◌++◌, [], ◌<◌, ◌≤◌, ℕ, Some, false, true, length, vec_capacity, vec_len, MatchOption};
+ghost use Rattle.std.specs.Prelude.{◌≡◌, List, ◌+◌, ◌-◌, ◌∷◌, ◌++◌, [], ◌<◌, ◌≤◌, ℕ, Some, false, true, length, vec_capacity, vec_len, MatchOption};
 ghost use Rattle.std.specs.List.{All};
 ghost use Rattle.crossbeam_channel.specs.Claims.{view, IsSeatAt};
-ghost use Rattle.crossbeam_channel.specs.Ends.{ruled_capacity, sends_on};
+ghost use Rattle.crossbeam_channel.specs.Ends.{receives_on, ruled_capacity, sends_on};
 ghost use Rattle.amr_ranks.specs.Letters.{LetterOf};
 ghost use Rattle.amr_ranks.specs.Laws.{HasJust};
 ghost use Rattle.amr_ranks.specs.Nodes.{Fits, answer, is_ready, taking};
 ghost use Rattle.amr_ranks.specs.declared.node.Taken.TheVariants.{New};
 ghost use Rattle.amr_post.specs.Rounds.{hand, rooms};
-ghost use Rattle.amr_post.specs.Letters.{AreSame, Expects, IsParcel, IsPost, letter_of, letters_in};
+ghost use Rattle.amr_post.specs.Letters.{AreSame, Expects, IsParcel, letter_of, letters_in};
 
 use crate::channel::{Hand, Inlet, Outlet, absorb, another, open, receive, send};
 use amr_ranks::{Letter, Node};
@@ -125,12 +125,38 @@ fn take_back(
     }
 }
 
+/// Parcels are taken back, and then what was sent is got: each letter goes to its node.
+fn deliver_all<R: Wait>(
+    rt: &R,
+    outlet: &Outlet,
+    inlet: &Inlet,
+    pass: &mut Pass<Letter, Hand>,
+    parcels: &mut Vec<Parcel>,
+    node: &mut Node,
+)
+    requires channel { receives_on inlet.now ≡ sends_on outlet.now }
+    requires seat { IsSeatAt (sends_on outlet.now) pass.old }
+    requires seats { All (λ q. IsSeatAt (sends_on outlet.now) q.pass) parcels.old.items }
+    requires parcels { All IsParcel parcels.old.items }
+    requires few { length parcels.old.items ≤ 8 }
+    requires unused { view pass.old ≡ hand (9 - length parcels.old.items) [] [] }
+    requires expects { (ls : List LetterOf) × AreSame (letters_in parcels.old.items) ls × Expects node.old ls }
+    ensures ready { is_ready node.new ≡ true }
+    ensures node { (ls : List LetterOf) → AreSame (letters_in parcels.old.items) ls → HasJust node.new (length node.new.totals) ls }
+{
+    let mut sent = 0;
+    while let Some(parcel) = parcels.pop() {
+        sent += take_back(outlet, pass, parcel, node);
+    }
+    for _letter in 0..sent {
+        let letter = receive(rt, inlet, pass);
+        let _ = node.take(&letter);
+    }
+}
+
 impl Post {
-    ghost use Rattle.std.specs.Prelude.{◌≡◌, ◌≤◌, ◌<◌, ℕ, List, true, length, IfErr, IfOk};
-    ghost use Rattle.amr_ranks.specs.Letters.{LetterOf};
-    ghost use Rattle.amr_ranks.specs.Laws.{HasJust};
-    ghost use Rattle.amr_ranks.specs.Nodes.{is_ready};
-    ghost use Rattle.amr_post.specs.Letters.{AreSame, Expects, IsPost, letters_in};
+    ghost use Rattle.std.specs.Prelude.{◌≡◌, ◌≤◌, ◌<◌, length, IfErr, IfOk};
+    ghost use Rattle.amr_post.specs.Letters.{AreSame, HasDelivered, IsPost, MayDeliver, letters_in};
 
     /// The letters of a round to one rank, at most one from each of eight, and a channel with room for them. All memory of the round is
     /// taken here: where it runs out the letters come back.
@@ -168,26 +194,18 @@ impl Post {
         send_all(rt, &self.outlet, threads, self.parcels.as_mut_slice());
     }
 
-    /// Gives the rank's node each letter, those that came through the channel and those that are still there. It has just these then.
-    pub fn deliver<R: Wait>(self, rt: &R, node: &mut Node)
-        requires post { IsPost self }
-        requires expects { (ls : List LetterOf) × AreSame (letters_in self.parcels.items) ls × Expects node.old ls }
-        ensures ready { is_ready node.new ≡ true }
-        ensures node { (ls : List LetterOf) → AreSame (letters_in self.parcels.items) ls → HasJust node.new (length node.new.totals) ls }
+    /// Gives the rank's node each letter: those that came through the channel, and those that are still there. None is left.
+    pub fn deliver<R: Wait>(&mut self, rt: &R, node: &mut Node)
+        requires { MayDeliver self.old node.old }
+        ensures { HasDelivered self.old node.new }
     {
-        let Post {
-            outlet,
-            inlet,
-            mut pass,
-            mut parcels,
-        } = self;
-        let mut sent = 0;
-        while let Some(parcel) = parcels.pop() {
-            sent += take_back(&outlet, &mut pass, parcel, node);
-        }
-        for _letter in 0..sent {
-            let letter = receive(rt, &inlet, &mut pass);
-            let _ = node.take(&letter);
-        }
+        deliver_all(
+            rt,
+            &self.outlet,
+            &self.inlet,
+            &mut self.pass,
+            &mut self.parcels,
+            node,
+        );
     }
 }
