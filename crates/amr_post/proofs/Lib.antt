@@ -2,3 +2,4 @@ pub mod Rules
 mod Parcels
 mod Taking
 mod UnderWay
+pub mod Nets

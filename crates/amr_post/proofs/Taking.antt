@@ -10,10 +10,10 @@ use Rattle.amr_ranks.specs.declared.item.Item.{Item}
 use Rattle.amr_ranks.specs.declared.item.FrameCell.{FrameCell}
 use Rattle.amr_ranks.specs.declared.node.Taken.{Taken}
 use Rattle.amr_ranks.specs.declared.node.Taken.TheVariants.{New, Again, Stranger}
-use Rattle.amr_ranks.specs.Items.{total, times, cells_in, share_in, has_word, is_at, count_at}
+use Rattle.amr_ranks.specs.Items.{total, times, cells_in, share_in, has_word, is_at}
 use Rattle.amr_ranks.specs.Letters.{LetterOf, numbers_of, cells_of, shares_of}
 use Rattle.amr_ranks.specs.Laws.{HasJust}
-use Rattle.amr_ranks.specs.Nodes.{NodeOf, Fits, fresh_node, is_in, is_ready, answer, taking, with_letter}
+use Rattle.amr_ranks.specs.Nodes.{NodeOf, Fits, is_in, is_ready, answer, taking, with_letter}
 use Rattle.amr_ranks.proofs.Sums.{one_if, total-append, total-map, total_ones, absent, present}
 use Rattle.amr_ranks.proofs.Masses.{mass_alike}
 use Rattle.amr_ranks.proofs.Weighs.{cells_weigh, cells_count}

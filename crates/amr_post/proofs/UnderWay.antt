@@ -1,11 +1,9 @@
 -- Letters under way to their node: each is taken, and then the node has just these.
-use Rattle.std.proofs.Common.{◌≡◌, ◌∙◌, ℕ, ◌+◌, ◌≤◌, true, Some, None, sym, ap, refl, subst, List, [], ◌∷◌, ◌++◌, length, map, arith}
+use Rattle.std.proofs.Common.{◌≡◌, ◌∙◌, ℕ, ◌+◌, ◌≤◌, true, Some, None, sym, ap, refl, subst, List, [], ◌∷◌, ◌++◌, length, arith}
 use Rattle.std.specs.Prelude.{MatchOption, Option, option_to_list}
-use Rattle.std.specs.List.{range_with_len}
 use Rattle.std.proofs.lemmas.List.{nil_from_length}
 use Rattle.std.proofs.lemmas.List.FromFn.{length-map-range_with_len}
 use Rattle.crossbeam_channel.specs.Claims.{view}
-use Rattle.amr_ranks.specs.declared.node.Taken.{Taken}
 use Rattle.amr_ranks.specs.declared.node.Taken.TheVariants.{New}
 use Rattle.amr_ranks.specs.Items.{total}
 use Rattle.amr_ranks.specs.Letters.{LetterOf, shares_of}

@@ -1,4 +1,3 @@
-use Rattle.amr_post.proofs.UnderWay.{all_ready}
 use Rattle.amr_post.proofs.post.take_back.Goals as goal
 
 pub take-requires-clause-to : goal.take-requires-clause-to
