@@ -13,7 +13,7 @@ use Rattle.amr_ranks.proofs.Sums.{total-append, total_ones}
 use Rattle.amr_post.specs.declared.channel.Hand.{Hand}
 use Rattle.amr_post.specs.declared.post.Parcel.{Parcel}
 use Rattle.amr_post.specs.Rounds.{HasLeft}
-use Rattle.amr_post.specs.Letters.{AreSame, Expects, IsUnderWay, having, letter_of, letters_in}
+use Rattle.amr_post.specs.Letters.{AreSame, Expects, IsSameNode, IsUnderWay, having, letter_of, letters_in}
 use Rattle.amr_post.proofs.Parcels.{one_more}
 use Rattle.amr_post.proofs.Taking.{own, fits, takes, none_yet, has_just, ready}
 
@@ -124,11 +124,17 @@ module _ (first : NodeOf) (all ls : List LetterOf) (same : AreSame all ls) (e : 
         let c : total weight items ≡ 0 = ap (total weight) nothing_left in
         omega arith
 
-    pub has_all : (xs : List LetterOf) → AreSame all xs → HasJust n (length n.totals) xs
+    pub has_all : (xs : List LetterOf) → AreSame all xs → HasJust n (length first.totals) xs
     has_all xs is =
-        let just : HasJust (having first u.taken) (length first.totals) xs = has_just first ls e u.taken (λ w. all_taken w ∙ same w) xs (λ w. all_taken w ∙ is w) in
-        subst (λ (d : NodeOf). HasJust d (length d.totals) xs) (sym u.has)
-        (subst (λ m. HasJust (having first u.taken) m xs) (sym (length-map-range_with_len (λ w. shares_of w u.taken) 0 (length first.totals))) just)
+        subst (λ (d : NodeOf). HasJust d (length first.totals) xs) (sym u.has) (has_just first ls e u.taken (λ w. all_taken w ∙ same w) xs (λ w. all_taken w ∙ is w))
+
+    pub stays : IsSameNode first n
+    stays = record {
+      rank = ap (λ (d : NodeOf). d.rank) u.has;
+      numbers = ap (λ (d : NodeOf). d.numbers) u.has;
+      room = ap (λ (d : NodeOf). d.room) u.has;
+      words = ap (λ (d : NodeOf). length d.totals) u.has ∙ length-map-range_with_len (λ w. shares_of w u.taken) 0 (length first.totals);
+    }
 
     pub all_ready : is_ready n ≡ true
     all_ready = subst (λ (d : NodeOf). is_ready d ≡ true) (sym u.has) (ready first ls e u.taken (λ w. all_taken w ∙ same w))

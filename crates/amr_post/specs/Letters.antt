@@ -71,7 +71,15 @@ pub record MayDeliver (p : Post) (n : NodeOf) : Type 0 where
   pub same : AreSame (letters_in p.parcels.items) letters
   pub expects : Expects n letters
 
+-- but for what it has taken it is the same node
+pub record IsSameNode (old new : NodeOf) : Type 0 where
+  pub rank : new.rank ≡ old.rank
+  pub numbers : new.numbers ≡ old.numbers
+  pub room : new.room ≡ old.room
+  pub words : length new.totals ≡ length old.totals
+
 -- they went: it has just these, all of them
-pub record HasDelivered (p : Post) (n : NodeOf) : Type 0 where
-  pub ready : is_ready n ≡ true
-  pub just : (letters : List LetterOf) → AreSame (letters_in p.parcels.items) letters → HasJust n (length n.totals) letters
+pub record HasDelivered (p : Post) (old new : NodeOf) : Type 0 where
+  pub stays : IsSameNode old new
+  pub ready : is_ready new ≡ true
+  pub just : (letters : List LetterOf) → AreSame (letters_in p.parcels.items) letters → HasJust new (length old.totals) letters

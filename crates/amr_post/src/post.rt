@@ -9,7 +9,7 @@ ghost use Rattle.amr_ranks.specs.Laws.{HasJust};
 ghost use Rattle.amr_ranks.specs.Nodes.{Fits, answer, is_ready, taking};
 ghost use Rattle.amr_ranks.specs.declared.node.Taken.TheVariants.{New};
 ghost use Rattle.amr_post.specs.Rounds.{hand, rooms};
-ghost use Rattle.amr_post.specs.Letters.{AreSame, Expects, IsParcel, letter_of, letters_in};
+ghost use Rattle.amr_post.specs.Letters.{AreSame, Expects, IsParcel, IsSameNode, letter_of, letters_in};
 
 use crate::channel::{Hand, Inlet, Outlet, absorb, another, open, receive, send};
 use amr_ranks::{Letter, Node};
@@ -141,8 +141,9 @@ fn deliver_all<R: Wait>(
     requires few { length parcels.old.items ≤ 8 }
     requires unused { view pass.old ≡ hand (9 - length parcels.old.items) [] [] }
     requires expects { (ls : List LetterOf) × AreSame (letters_in parcels.old.items) ls × Expects node.old ls }
+    ensures stays { IsSameNode node.old node.new }
     ensures ready { is_ready node.new ≡ true }
-    ensures node { (ls : List LetterOf) → AreSame (letters_in parcels.old.items) ls → HasJust node.new (length node.new.totals) ls }
+    ensures node { (ls : List LetterOf) → AreSame (letters_in parcels.old.items) ls → HasJust node.new (length node.old.totals) ls }
 {
     let mut sent = 0;
     while let Some(parcel) = parcels.pop() {
@@ -197,7 +198,7 @@ impl Post {
     /// Gives the rank's node each letter: those that came through the channel, and those that are still there. None is left.
     pub fn deliver<R: Wait>(&mut self, rt: &R, node: &mut Node)
         requires { MayDeliver self.old node.old }
-        ensures { HasDelivered self.old node.new }
+        ensures { HasDelivered self.old node.old node.new }
     {
         deliver_all(
             rt,

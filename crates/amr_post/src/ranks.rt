@@ -73,7 +73,8 @@ fn send_each<R: Threads + Wait + Sync>(rt: &R, threads: usize, ranks: &mut [Rank
     requires ready { All (λ rank. MayDeliver rank.post rank.node) ranks.old }
     ensures ready { All (λ rank. MayDeliver rank.post rank.node) ranks.new }
     ensures letters { (k : ℕ) (d : Rank) → k < length ranks.old
-        → letters_in (slice_index_or ranks.new k d).post.parcels.items ≡ letters_in (slice_index_or ranks.old k d).post.parcels.items }
+        → (letters_in (slice_index_or ranks.new k d).post.parcels.items ≡ letters_in (slice_index_or ranks.old k d).post.parcels.items)
+        × ((slice_index_or ranks.new k d).node ≡ (slice_index_or ranks.old k d).node) }
 {
     let go = move |_: usize, rank: &mut Rank|
         requires { (0 < threads) × IsPost rank.now.post }
@@ -87,11 +88,11 @@ fn send_each<R: Threads + Wait + Sync>(rt: &R, threads: usize, ranks: &mut [Rank
 fn deliver_each<R: Threads + Wait + Sync>(rt: &R, threads: usize, ranks: &mut [Rank])
     requires some { 0 < threads }
     requires ready { All (λ rank. MayDeliver rank.post rank.node) ranks.old }
-    ensures { (k : ℕ) (d : Rank) → k < length ranks.old → HasDelivered (slice_index_or ranks.old k d).post (slice_index_or ranks.new k d).node }
+    ensures { (k : ℕ) (d : Rank) → k < length ranks.old → HasDelivered (slice_index_or ranks.old k d).post (slice_index_or ranks.old k d).node (slice_index_or ranks.new k d).node }
 {
     let go = move |_: usize, rank: &mut Rank|
         requires { MayDeliver rank.now.post rank.now.node }
-        ensures { HasDelivered rank.entry.now.post rank.exit.now.node }
+        ensures { HasDelivered rank.entry.now.post rank.entry.now.node rank.exit.now.node }
     { rank.post.deliver(rt, &mut rank.node) };
     for_each_mut(rt, ranks, threads, &go);
 }
@@ -101,7 +102,7 @@ fn deliver_each<R: Threads + Wait + Sync>(rt: &R, threads: usize, ranks: &mut [R
 /// and no memory is taken.
 pub fn round<R: Threads + Wait + Sync>(rt: &R, ranks: &mut [Rank])
     requires { All (λ rank. MayDeliver rank.post rank.node) ranks.old }
-    ensures { (k : ℕ) (d : Rank) → k < length ranks.old → HasDelivered (slice_index_or ranks.old k d).post (slice_index_or ranks.new k d).node }
+    ensures { (k : ℕ) (d : Rank) → k < length ranks.old → HasDelivered (slice_index_or ranks.old k d).post (slice_index_or ranks.old k d).node (slice_index_or ranks.new k d).node }
 {
     let threads = ranks.len();
     if threads == 0 {

@@ -11,7 +11,7 @@ use Rattle.amr_post.specs.declared.channel.Hand.{Hand}
 use Rattle.amr_post.specs.declared.post.Parcel.{Parcel}
 use Rattle.amr_post.specs.Rounds.{rooms}
 use Rattle.amr_post.specs.Letters.{IsParcel, IsUnderWay, letters_in}
-use Rattle.amr_post.proofs.UnderWay.{all_ready, back_on, begun, fits_back, fits_got, got_on, has_all, left_on, to_got}
+use Rattle.amr_post.proofs.UnderWay.{all_ready, back_on, begun, fits_back, fits_got, got_on, has_all, left_on, stays, to_got}
 use Rattle.amr_post.proofs.post.deliver_all.Goals as goal
 
 pub loop-parcel-init : goal.loop-parcel-init
@@ -128,6 +128,13 @@ loop-letter-preserved g c =
       got_is = omega (arith, more, inv.got_is);
       left = (said.left.0, λ weight. subst (λ (u : Hand). total weight u.sent ≡ total weight u.got + total weight said.left.0) (sym said.got) (left_on v x said.left weight));
     }
+
+pub returns-clause-stays : goal.returns-clause-stays
+returns-clause-stays g c =
+    let inv = c.loop-letter.invariant in
+    let v = view c.loop-letter.pass in
+    stays c.args.node.now (letters_in c.args.parcels.now.items) c.requires.expects.0 c.requires.expects.1 c.requires.expects.2 v.sent v.got inv.left.0 c.loop-letter.node inv.under_way inv.left.1
+    (omega (arith, inv.got_is, inv.sent_is))
 
 pub returns-clause-ready : goal.returns-clause-ready
 returns-clause-ready g c =
