@@ -1,5 +1,5 @@
-//! Tests of what threads share, by public items alone: mailboxes, workers on a board, the core of a board, and
-//! letters between ranks.
+//! Tests of what threads share, by public items alone: mailboxes, workers on a board, the core of a board,
+//! letters between ranks, and a round of them over channels.
 //! They stand here and not beside what they test, so that no crate is proved a second time with its tests.
 #![tactic(auto)]
 
@@ -9,6 +9,8 @@ mod board;
 mod mailbox;
 #[cfg(test)]
 mod phase;
+#[cfg(test)]
+mod post;
 #[cfg(test)]
 mod ranks;
 #[cfg(test)]
