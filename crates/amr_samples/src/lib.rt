@@ -10,6 +10,6 @@ mod problems;
 mod rings;
 mod turnstile;
 
-pub use problems::{nine_columns, problem};
+pub use problems::{RING, Sample, nine_columns, problem, ring_of};
 pub use rings::{empty_level, fine_box, ring, whole_box};
 pub use turnstile::Turnstile;
