@@ -1,0 +1,5 @@
+pub mod Rules
+mod Parcels
+mod Taking
+mod UnderWay
+pub mod Nets
