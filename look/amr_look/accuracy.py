@@ -163,16 +163,16 @@ def order(coarse: float, fine: float) -> float:
 
 def table(results: list[Result]) -> str:
     """The results as a table of Markdown, and how many of the runs account for every unit of mass."""
-    lines = ["| shape | columns + finer levels | greatest mass | mean error | order | greatest error | order | cells updated |"]
-    lines.append("|---|---|---|---|---|---|---|---|")
+    lines = ["shape | columns + finer levels | greatest mass | mean error | order | greatest error | order | cells updated"]
+    lines.append("---|---|---|---|---|---|---|---")
     found = {(it.case.shape.name, it.case.cells, it.case.finer, it.case.height): it for it in results}
     for it in results:
         case = it.case
         half = found.get((case.shape.name, case.cells // 2, 0, case.height)) if not case.finer else None
         orders = [f"{order(a, b):.2f}" for a, b in ((half.mean, it.mean), (half.greatest, it.greatest))] if half else ["", ""]
         lines.append(
-            f"| {case.shape.name} | {case.cells}{f' + {case.finer}' if case.finer else ''} | {case.height:,} | {it.mean:.5f} "
-            f"| {orders[0]} | {it.greatest:.4f} | {orders[1]} | {it.updated:,} |"
+            f"{case.shape.name} | {case.cells}{f' + {case.finer}' if case.finer else ''} | {case.height:,} | {it.mean:.5f} "
+            f"| {orders[0]} | {it.greatest:.4f} | {orders[1]} | {it.updated:,}"
         )
     kept = sum(it.conserved for it in results)
     return "\n".join([*lines, "", f"{kept} of {len(results)} runs account for every unit of mass."])

@@ -80,7 +80,7 @@ def test_the_table_has_a_row_for_each_run(tmp_path):
     assert abs(result.mean - numpy.abs(start - accuracy.BUMP.exact(64)).mean()) < 1e-6
     assert result.updated == 32 * 64 * 64 and result.conserved
     (_, _, row, _, told) = accuracy.table([result]).splitlines()
-    assert row.startswith("| bump | 64 | 1,000,000,000 |") and row.endswith("| 131,072 |")
+    assert row.startswith("bump | 64 | 1,000,000,000 |") and row.endswith("| 131,072")
     assert told == "1 of 1 runs account for every unit of mass."
 
 

@@ -129,7 +129,8 @@ pub record Keeps (deltas : Option ℕ) (before after : OutsideAt) (all : List Co
 
 -- What became of a disk since a time at which it read as the image, where calls were to make all that of it and said this: a stop leaves what was
 -- found then or made last, or what is made next. But where the disk failed it reads as it did then, with what was made and nothing else.
-pub record History (deltas : Option ℕ) (after : DiskAt) (found : Time) (image : List ℕ) (all : List Content) (said : List ℕ) (ended : Option KeepFault) : Type 0 where
+pub record History (deltas : Option ℕ) (after : DiskAt) (found : Time) (image : List ℕ)
+    (all : List Content) (said : List ℕ) (ended : Option KeepFault) : Type 0 where
   pub times : List Time
   pub attempt : Option Content
   pub leave : StopsLeave after.leaves found after.moment all times attempt

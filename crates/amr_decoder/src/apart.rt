@@ -17,7 +17,7 @@ use std::alloc::Global;
 use std::marker::Model;
 
 /// Boxes of a level with the places of their masses. Contracts see their list, in the order of reading, and the domain of the
-/// level below as a box. The parents of their cells are tagged there, so that a new box is compared with all of them by a look
+/// next coarser level as a box. The parents of their cells are tagged there, so that a new box is compared with all of them by a look
 /// at the words of its rows.
 #[derive(Drop)]
 pub(crate) struct Apart {

@@ -10,12 +10,12 @@
 mod after;
 mod drives;
 mod flocks;
+mod intervals;
 mod lanes;
 mod laws;
 mod nexts;
 mod species;
 mod starts;
-mod stretches;
 mod teams;
 mod together;
 

@@ -17,8 +17,8 @@ use std::alloc::Global;
 
 /// The start of a run (Berger and Colella 1989): level 0 with the masses of the blocks, regridded once for each level
 /// that the problem may have above it. So each regrid may add one, and covers each cell that it tagged (`start_holds_tags`).
-/// It is at step 0, and each level is in patches of at most `max_grid_size` by `max_grid_size` cells. `NoMemory` is the
-/// only refusal.
+/// It is at step 0, and each level is in patches of at most `max_grid_size` by `max_grid_size` cells. Where a problem has several
+/// species, the blocks of all lie on this one state: [`crate::Flock::start`] has each apart. `NoMemory` is the only refusal.
 pub fn start(alloc: Global, p: &Problem) -> Result<Mesh, NoMemory>
     ensures value { IfOk result (λ m. state_of m ≡ start p.now) }
     ensures sound { IfOk result (λ m. IsSound p.now (state_of m)) }

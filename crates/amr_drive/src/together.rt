@@ -11,9 +11,9 @@ ghost use Rattle.amr_drive.specs.Lanes.{IsRegriddedIfDue, StandsAt};
 use crate::after::Nothing;
 use crate::drives::drive;
 use crate::flocks::Flock;
+use crate::intervals::go_to;
 use crate::lanes::{Lane, forget_all, lanes_of};
 use crate::nexts::is_due;
-use crate::stretches::go_to;
 use amr_advance::{Crew, Workers};
 use amr_causes::NoMemory;
 use amr_def::Problem;
@@ -25,7 +25,7 @@ use std::sync::Wait;
 use std::thread::Threads;
 
 /// Up to which step species go by themselves from a step: that of the next regrid that is due, or the target.
-fn stretch_end(p: &Problem, step: u32, target: u32) -> u32
+fn interval_end(p: &Problem, step: u32, target: u32) -> u32
     requires ahead { step < target }
     requires within { target ≤ p.now.steps }
     ensures later { step < result }
@@ -107,7 +107,7 @@ fn go_on<R: Threads + Wait + Sync, G: Gate + Sync>(
         meshes,
         lanes,
     )?;
-    let end = stretch_end(p, step, target);
+    let end = interval_end(p, step, target);
     go_to(
         workers.runtime,
         alloc,

@@ -107,7 +107,8 @@ pub(crate) fn send<R: Wait>(
     requires capacity { ruled_capacity (sends_on outlet.now) ≡ 9 }
     requires room { 0 < (view pass.old).room }
     ensures channel { IsSeatAt (sends_on outlet.now) pass.new }
-    ensures sent { MatchOption result (view pass.new ≡ hand ((view pass.old).room - 1) ((view pass.old).sent ++ letter ∷ []) (view pass.old).got) (λ back. (back ≡ letter) × (view pass.new ≡ view pass.old)) }
+    ensures sent { MatchOption result (view pass.new ≡ hand ((view pass.old).room - 1) ((view pass.old).sent ++ letter ∷ []) (view pass.old).got)
+        (λ back. (back ≡ letter) × (view pass.new ≡ view pass.old)) }
 {
     match outlet.try_send_as::<Sends, R>(rt, pass, letter) {
         Ok(()) => None,
@@ -133,7 +134,8 @@ pub(crate) fn receive<R: Wait>(rt: &R, inlet: &Inlet, pass: &mut Pass<Letter, Ha
 
 /// A channel with all its rooms at one end, and nothing sent.
 pub(crate) fn open(alloc: Global) -> Result<(Outlet, Inlet, Pass<Letter, Hand>), NoMemory>
-    ensures { IfOk result (λ r. (receives_on r.1 ≡ sends_on r.0) × (ruled_capacity (sends_on r.0) ≡ 9) × IsSeatAt (sends_on r.0) r.2 × (view r.2 ≡ hand 9 [] [])) }
+    ensures { IfOk result (λ r. (receives_on r.1 ≡ sends_on r.0) × (ruled_capacity (sends_on r.0) ≡ 9) × IsSeatAt (sends_on r.0) r.2
+        × (view r.2 ≡ hand 9 [] [])) }
 {
     Ok(bounded_with(alloc, ROOM)?)
 }
@@ -154,7 +156,8 @@ pub(crate) fn absorb(outlet: &Outlet, pass: &mut Pass<Letter, Hand>, other: Pass
     requires channel { IsSeatAt (sends_on outlet.now) pass.old × IsSeatAt (sends_on outlet.now) other }
     requires had { 0 < rooms (view pass.old) }
     ensures channel { IsSeatAt (sends_on outlet.now) pass.new }
-    ensures both { view pass.new ≡ hand ((view pass.old).room + (view other).room) ((view pass.old).sent ++ (view other).sent) ((view pass.old).got ++ (view other).got) }
+    ensures both { view pass.new ≡ hand ((view pass.old).room + (view other).room) ((view pass.old).sent ++ (view other).sent)
+        ((view pass.old).got ++ (view other).got) }
 {
     outlet.absorb::<Rooms>(pass, other)
 }

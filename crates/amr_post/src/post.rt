@@ -92,7 +92,8 @@ fn send_all<R: Threads + Wait + Sync>(
 {
     let go = move |_: usize, parcel: &mut Parcel|
         requires { IsSeatAt (sends_on outlet.now) parcel.now.pass × IsParcel parcel.now × (ruled_capacity (sends_on outlet.now) ≡ 9) }
-        ensures { IsSeatAt (sends_on outlet.entry.now) parcel.exit.now.pass × IsParcel parcel.exit.now × (letter_of parcel.exit.now ≡ letter_of parcel.entry.now) }
+        ensures { IsSeatAt (sends_on outlet.entry.now) parcel.exit.now.pass × IsParcel parcel.exit.now
+            × (letter_of parcel.exit.now ≡ letter_of parcel.entry.now) }
     { send_own(rt, outlet, parcel) };
     for_each_mut(rt, parcels, threads, &go);
 }

@@ -88,7 +88,8 @@ fn send_each<R: Threads + Wait + Sync>(rt: &R, threads: usize, ranks: &mut [Rank
 fn deliver_each<R: Threads + Wait + Sync>(rt: &R, threads: usize, ranks: &mut [Rank])
     requires some { 0 < threads }
     requires ready { All (λ rank. MayDeliver rank.post rank.node) ranks.old }
-    ensures { (k : ℕ) (d : Rank) → k < length ranks.old → HasDelivered (slice_index_or ranks.old k d).post (slice_index_or ranks.old k d).node (slice_index_or ranks.new k d).node }
+    ensures { (k : ℕ) (d : Rank) → k < length ranks.old
+        → HasDelivered (slice_index_or ranks.old k d).post (slice_index_or ranks.old k d).node (slice_index_or ranks.new k d).node }
 {
     let go = move |_: usize, rank: &mut Rank|
         requires { MayDeliver rank.now.post rank.now.node }
@@ -102,7 +103,8 @@ fn deliver_each<R: Threads + Wait + Sync>(rt: &R, threads: usize, ranks: &mut [R
 /// and no memory is taken.
 pub fn round<R: Threads + Wait + Sync>(rt: &R, ranks: &mut [Rank])
     requires { All (λ rank. MayDeliver rank.post rank.node) ranks.old }
-    ensures { (k : ℕ) (d : Rank) → k < length ranks.old → HasDelivered (slice_index_or ranks.old k d).post (slice_index_or ranks.old k d).node (slice_index_or ranks.new k d).node }
+    ensures { (k : ℕ) (d : Rank) → k < length ranks.old
+        → HasDelivered (slice_index_or ranks.old k d).post (slice_index_or ranks.old k d).node (slice_index_or ranks.new k d).node }
 {
     let threads = ranks.len();
     if threads == 0 {

@@ -1,5 +1,6 @@
 //! Problems, levels and a gate that several crates of tests share. No program calls them.
 //!
+//! - [`ring_of`]: the problem of a [`Sample`], by which all others are made.
 //! - [`problem`]: a problem of two levels, where all that a cell has flows one column on in a step.
 //! - [`ring`]: such a ring of 4 by 2 cells, with [`whole_box`] on level 0 and [`fine_box`] on level 1.
 //! - [`nine_columns`]: a ring of one level in three patches.
@@ -10,6 +11,6 @@ mod problems;
 mod rings;
 mod turnstile;
 
-pub use problems::{nine_columns, problem};
+pub use problems::{RING, Sample, nine_columns, problem, ring_of};
 pub use rings::{empty_level, fine_box, ring, whole_box};
 pub use turnstile::Turnstile;

@@ -1,14 +1,29 @@
 //! The start of 2 by 2 cells as bytes, by both widths of a mass: places and sizes worked out by hand from the table of fields.
 
+ghost use Rattle.std.specs.Prelude.{◌≡◌, IfOk};
+
 use crate::payloads::{fault_in, set};
-use crate::problems::two_by_two;
 use amr_causes::NoMemory;
 use amr_codec::{MassWidth, encode, encode2, slot_size, slot_size2};
 use amr_decoder::CodecFault;
 use amr_def::Problem;
+use amr_samples::{RING, Sample, ring_of};
 use amr_start::base;
 use std::alloc::Global;
 use std::test::Fail;
+
+/// The ring with 2 by 2 cells, without steps and blocks.
+fn two_by_two(alloc: Global) -> Result<Problem, NoMemory>
+    ensures { IfOk result (λ p. p.max_level ≡ 0) }
+{
+    let sample = Sample {
+        nx: 2,
+        ny: 2,
+        steps: 0,
+        ..RING
+    };
+    ring_of(alloc, sample, &[], &[])
+}
 
 /// Both payloads of the start.
 fn start_as_bytes(alloc: Global, p: &Problem) -> Result<(Vec<u8>, Vec<u8>), NoMemory> {

@@ -11,8 +11,6 @@ mod payloads;
 #[cfg(test)]
 mod problem;
 #[cfg(test)]
-mod problems;
-#[cfg(test)]
 mod records;
 #[cfg(test)]
 mod trial;

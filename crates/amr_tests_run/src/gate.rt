@@ -67,6 +67,45 @@ fn second_task_first(rt: HostRuntime) -> Result<(), Fail> {
     Ok(())
 }
 
+/// Two species on a ring: 8 of the first in cell (0, 0), 7 of the second in cell (1, 0).
+const TWO_SPECIES: &str =
+    "version = 3;species = 2;blocks = [[0, 0, 0, 0, 8, 0], [1, 0, 1, 0, 7, 1]]";
+
+const TWO_SPECIES_PLOT: &str = "amr-plot 2
+name ring
+step 1
+ledger 0 0 8 0 0
+ledger 0 1 7 0 0
+ledger 1 0 8 0 0
+ledger 1 1 7 0 0
+level 0 1
+box 0 0 3 1
+species 0
+4 4 0 0
+0 0 0 0
+species 1
+0 4 3 0
+0 0 0 0
+end
+";
+
+/// The same of the steps of two species: so these go side by side, by one worker each.
+#[test]
+fn second_species_first(rt: HostRuntime) -> Result<(), Fail> {
+    let text = ring_with(rt.alloc(), TWO_SPECIES)?;
+    let gate = Turnstile::new();
+    let words = ["run", "--workers", "2"];
+    answers(
+        &rt,
+        words,
+        text.as_bytes(),
+        TWO_SPECIES_PLOT.as_bytes(),
+        &gate,
+    )?;
+    assert!(rt; gate.has_held());
+    Ok(())
+}
+
 /// The same of the tasks of two jobs: so these are solved side by side, by one worker each.
 #[test]
 fn second_job_first(rt: HostRuntime) -> Result<(), Fail> {

@@ -4,10 +4,11 @@ ghost use Rattle.std.specs.Prelude.{◌≤◌};
 
 use crate::rows::{corners, row};
 use amr_causes::NoMemory;
-use amr_def::{Block, Blocks, Name, Problem, Shear, Sides, Thresholds};
+use amr_def::{Block, Problem};
 use amr_drive::start;
 use amr_patch::Level;
 use amr_regrid::regrid;
+use amr_samples::{RING, Sample, ring_of};
 use amr_start::base;
 use std::alloc::Global;
 use std::process::Abort;
@@ -28,30 +29,13 @@ fn spot(alloc: Global, efficiency: u32) -> Result<Problem, NoMemory>
     requires some { 1 ≤ efficiency }
     requires most { efficiency ≤ 100 }
 {
-    Ok(Problem {
-        version: 1,
-        name: Name::make(Vec::from_slice(alloc, b"ring")?),
-        nx: 4,
-        ny: 2,
+    let sample = Sample {
         steps: 0,
-        cx: 0,
-        cy: 0,
-        d: 1,
-        shear_x: Shear::make(Vec::new(alloc)),
-        shear_y: Shear::make(Vec::new(alloc)),
-        x_sides: Sides::Periodic,
-        y_sides: Sides::Periodic,
-        max_level: 1,
-        tag: Thresholds::make(Vec::from_slice(alloc, [4u64].as_slice())?),
-        n_error_buf: 0,
         efficiency,
-        min_width: 1,
-        regrid_int: 4096,
-        blocking: 2,
         max_grid_size: 256,
-        blocks: Blocks::make(Vec::from_slice(alloc, [SPOT].as_slice())?),
-        species: 1,
-    })
+        ..RING
+    };
+    ring_of(alloc, sample, &[4], &[SPOT])
 }
 
 /// The levels at the start of a problem.

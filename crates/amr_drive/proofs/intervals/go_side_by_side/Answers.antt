@@ -3,7 +3,7 @@ use Rattle.std.specs.Prelude.{slice_index_or}
 use Rattle.amr_drive.specs.declared.lanes.Lane.{Lane}
 use Rattle.amr_drive.specs.Lanes.{HasGone}
 use Rattle.amr_drive.proofs.LaneSends.{lanes_sendable}
-use Rattle.amr_drive.proofs.stretches.go_side_by_side.Goals as goal
+use Rattle.amr_drive.proofs.intervals.go_side_by_side.Goals as goal
 
 -- lanes go to other threads
 pub for_each_mut-requires-send-T : goal.for_each_mut-requires-send-T

@@ -4,7 +4,7 @@ use Rattle.amr_patch.specs.Meshes.{is_spent, state_of}
 use Rattle.amr_cycle.specs.Kept.{IsKeptFor}
 use Rattle.amr_drive.specs.Flocks.{IsInPatchesOf}
 use Rattle.amr_drive.specs.Lanes.{stepped_to}
-use Rattle.amr_drive.proofs.stretches.make_plain_steps.Given as goal
+use Rattle.amr_drive.proofs.intervals.make_plain_steps.Given as goal
 
 abbrev pub invariant-loop-step : goal.invariant-loop-step
 invariant-loop-step g l = record {

@@ -5,7 +5,7 @@ use Rattle.amr_patch.specs.Meshes.{state_of}
 use Rattle.amr_drive.specs.Lanes.{stepped_to}
 use Rattle.amr_drive.proofs.Kept.{coarsenable}
 use Rattle.amr_drive.proofs.StepsTo.{stepped_here, stepped_more, stepped_to_step}
-use Rattle.amr_drive.proofs.stretches.make_plain_steps.Goals as goal
+use Rattle.amr_drive.proofs.intervals.make_plain_steps.Goals as goal
 
 pub loop-step-init : goal.loop-step-init
 loop-step-init g c = record {

@@ -1,6 +1,6 @@
 use Rattle.std.proofs.Common.{arith}
 use Rattle.amr_drive.proofs.LaneChanges.{all_gone, all_ready}
-use Rattle.amr_drive.proofs.stretches.go_to.Goals as goal
+use Rattle.amr_drive.proofs.intervals.go_to.Goals as goal
 
 pub go_side_by_side-requires-clause-ready : goal.go_side_by_side-requires-clause-ready
 go_side_by_side-requires-clause-ready g c κs within =
