@@ -22,7 +22,7 @@ use Rattle.amr_patch.specs.Places.{is_edge_face}
 use Rattle.amr_patch.proofs.Lookups.{masses_in-at, same_default}
 use Rattle.amr_faces.specs.Faces.{IsInDomain, ShowsValues, masked_faces}
 use Rattle.amr_flows.specs.Laws.{plain_size}
-use Rattle.amr_flux.specs.declared.fluxes.Sides.{Sides}
+use Rattle.amr_flux.specs.declared.fluxes.PatchSides.{PatchSides}
 use Rattle.amr_ghost.specs.Frames.{old_masses}
 use Rattle.amr_ghost.specs.declared.outer.OuterGhosts.{OuterGhosts}
 use Rattle.amr_ghost.specs.declared.parts.FrameParts.{FrameParts}
@@ -258,7 +258,7 @@ module _ {p : Problem} {l : ℕ} {old : Masses} {ps : List Patch} {cells : List 
             sym (get_or-map (λ (u : PatchLayout). u.border.items) y.layouts.items i u v (omega (arith, below, layout_count))) ∙ ap (λ zs. get_or zs i v) of.layouts.borders
             ∙ run_at t.each (all_places_read s t.each) k i v (omega (arith, below, same_run t.each k (all_places_read s t.each) ps has.read_count))
 
-        puts_on : (q : Patch) (u : PatchLayout) (r : Sides) → ArePutsOn (get_or y.sides.items i r) (box (get_or (run t.each k ps) i q)) (get_or y.layouts.items i u).puts.items
+        puts_on : (q : Patch) (u : PatchLayout) (r : PatchSides) → ArePutsOn (get_or y.sides.items i r) (box (get_or (run t.each k ps) i q)) (get_or y.layouts.items i u).puts.items
         puts_on q u r = λ j z under.
             let here = subst (λ zs. All (λ (x : PutAt). IsTrue (is_edge_face (box (get_or ps (k * t.each + i) q)) x.face)) zs) (sym (puts_at u [])) (has.puts (k * t.each + i) q [] in_ps) in
             let own = subst (λ (g : Patch). All (λ (x : PutAt). IsTrue (is_edge_face (box g) x.face)) (get_or y.layouts.items i u).puts.items) (sym (patch_at q)) here j z under in

@@ -9,7 +9,7 @@ use Rattle.amr_ghost.specs.Messages.{ArePacked, HasPacked, HasPlaces, mass_count
 use Rattle.amr_ghost.specs.declared.messages.Message.{Message}
 use Rattle.amr_ghost.specs.declared.parts.FrameCopy.{FrameCopy}
 use Rattle.amr_ghost.specs.declared.parts.FrameParts.{FrameParts}
-use Rattle.amr_advance.specs.Lots.{IsBoxOf}
+use Rattle.amr_advance.specs.Lots.{AreMessagesOf}
 
 -- a message has masses of these patches
 abbrev pub IsPackedFrom : List Patch → Message → Type 0
@@ -21,7 +21,7 @@ packed_at rs xs ys h t m lt = let n = length_all_zip (HasPacked rs) xs ys h in A
 pub all_packed : (rs : List Patch) (xs ys : List Message) → AllZip (HasPacked rs) xs ys → All (IsPackedFrom rs) ys
 all_packed rs xs ys h = λ t m lt. (packed_at rs xs ys h t m lt).packed
 
-module _ {parts : FrameParts} {place : ℕ → ℕ} {k runs : ℕ} {xs : List Message} (b : IsBoxOf parts place k runs xs) where
+module _ {parts : FrameParts} {place : ℕ → ℕ} {k runs : ℕ} {xs : List Message} (b : AreMessagesOf parts place k runs xs) where
   -- what holds of the copies of each part holds of those of each message
   pub box_copies : (P : FrameCopy → Type 0) (v : Vec FrameCopy) → ((t : ℕ) → t < runs → All P (get_or parts.copies.items (place t) v).items) → All (λ (m : Message). All P m.copies.items × HasPlaces m) xs
   box_copies P v h = λ t m lt. (by_place t m (omega (arith, lt, b.count)) (cases_eq t k), b.places t m lt)
@@ -31,7 +31,7 @@ module _ {parts : FrameParts} {place : ℕ → ℕ} {k runs : ℕ} {xs : List Me
       by_place t m lt (inr other) = All-same P (get_or xs t m).copies.items (get_or parts.copies.items (place t) v).items (b.copies t m v lt other) (h t lt)
 
   -- packed messages are for the same copies
-  pub box_packed : (rs : List Patch) (ys : List Message) → k < runs → AllZip (HasPacked rs) xs ys → IsBoxOf parts place k runs ys
+  pub box_packed : (rs : List Patch) (ys : List Message) → k < runs → AllZip (HasPacked rs) xs ys → AreMessagesOf parts place k runs ys
   box_packed rs ys here h = record {
     count = same;
     copies = λ t m v lt other. (λ i. ((at t m lt).copies i).items) ∙ b.copies t m v lt other;
@@ -46,8 +46,8 @@ module _ {parts : FrameParts} {place : ℕ → ℕ} {k runs : ℕ} {xs : List Me
       at t m lt = packed_at rs xs ys h t m (let e = same in omega (arith, lt, e))
 
 -- messages that each come from a box of the other lot
-pub box_crossed : (parts : FrameParts) (place : ℕ → ℕ → ℕ) (k runs : ℕ) (ys : List Message) (xs : ℕ → List Message) → k < runs → length ys ≡ runs → ((t : ℕ) → t < runs → IsBoxOf parts (place t) t runs (xs t))
-    → ((t : ℕ) (m : Message) → t < runs → get_or ys t m ≡ get_or (xs t) k m) → IsBoxOf parts (λ t. place t k) k runs ys
+pub box_crossed : (parts : FrameParts) (place : ℕ → ℕ → ℕ) (k runs : ℕ) (ys : List Message) (xs : ℕ → List Message) → k < runs → length ys ≡ runs → ((t : ℕ) → t < runs → AreMessagesOf parts (place t) t runs (xs t))
+    → ((t : ℕ) (m : Message) → t < runs → get_or ys t m ≡ get_or (xs t) k m) → AreMessagesOf parts (λ t. place t k) k runs ys
 box_crossed parts place k runs ys xs here count boxes comes = record {
   count = count;
   copies = λ t m v lt other. (λ i. (comes t m lt i).copies.items) ∙ (boxes t lt).copies k m v here (λ e. other (sym e));

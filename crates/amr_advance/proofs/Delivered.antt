@@ -16,7 +16,7 @@ use Rattle.amr_ghost.specs.Outer.{AreOuterBeside, IsOuterSpan, IsSpanBeside}
 use Rattle.amr_ghost.specs.declared.messages.Message.{Message}
 use Rattle.amr_ghost.specs.declared.parts.FrameCopy.{FrameCopy}
 use Rattle.amr_ghost.specs.declared.parts.FrameParts.{FrameParts}
-use Rattle.amr_ghost.specs.declared.sources.Span.{Span}
+use Rattle.amr_ghost.specs.declared.sources.GhostSpan.{GhostSpan}
 use Rattle.amr_ghost.proofs.Carrying.{carries_packed}
 use Rattle.amr_ghost.proofs.PartLaws.{copies_received, copies_taken, outer_beside, outer_spans}
 use Rattle.amr_layout.specs.Surroundings.{around}
@@ -52,7 +52,7 @@ module _ {p : Problem} {l : ℕ} {old : Masses} {ps : List Patch} {cells : List 
   received : (u k : ℕ) (v : Vec FrameCopy) → u < runs → k < runs → All (IsReceived (run t.each k ps)) (copies u k v)
   received u k v from_there there = copies_received (domain p l) ps ps level.lots.plan t.each runs parts level.lots.planned level.lots.parted (same_patches level) u k (run t.each k ps) v from_there there (run_is t.each k ps)
 
-  beside : (k : ℕ) (v : Vec Span) → k < runs → All (IsSpanBeside (run t.each k ps)) (get_or level.lots.parts.outer.items k v).items
+  beside : (k : ℕ) (v : Vec GhostSpan) → k < runs → All (IsSpanBeside (run t.each k ps)) (get_or level.lots.parts.outer.items k v).items
   beside k v there = outer_beside (domain p l) ps ps level.lots.plan t.each runs parts level.lots.planned level.lots.parted (same_patches level) k (run t.each k ps) v there (run_is t.each k ps)
 
   -- ---- the messages packed

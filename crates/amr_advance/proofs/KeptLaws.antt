@@ -19,7 +19,7 @@ use Rattle.amr_ghost.specs.declared.parts.FrameParts.{FrameParts}
 use Rattle.amr_ghost.specs.declared.plan.FramePlan.{FramePlan}
 use Rattle.amr_ghost.proofs.PlanLaws.{plan_of_boxes}
 use Rattle.amr_layout.specs.declared.FlowTo.{FlowTo}
-use Rattle.amr_layout.specs.declared.alone.LevelFlows.{LevelFlows}
+use Rattle.amr_layout.specs.declared.level_flows.LevelFlows.{LevelFlows}
 use Rattle.amr_layout.specs.Adds.{flows_of}
 use Rattle.amr_layout.specs.Grounds.{SameGround, has_open_side}
 use Rattle.amr_layout.specs.LevelFlowLists.{flow_lists, flows_at}
@@ -31,7 +31,7 @@ use Rattle.amr_layout.specs.Arounds.{all_borders, all_places_read, all_puts}
 use Rattle.amr_layout.specs.Places.{HasMask, borders_of, puts_of}
 use Rattle.amr_layout.specs.Posts.{add_post, patch_plan, patch_task, put_post}
 use Rattle.amr_flux.specs.Rooms.{widest}
-use Rattle.amr_flux.specs.declared.fluxes.Sides.{Sides}
+use Rattle.amr_flux.specs.declared.fluxes.PatchSides.{PatchSides}
 use Rattle.amr_phase.specs.Plans.{IsPlan, total}
 use Rattle.amr_phase.specs.declared.plan.Task.{Task}
 use Rattle.amr_lots.specs.declared.lot.Lot.{Lot}
@@ -40,10 +40,10 @@ use Rattle.amr_lots.specs.Lots.{LieOn}
 use Rattle.amr_lots.specs.Ready.{HasFlowsIn}
 use Rattle.amr_lots.specs.Runs.{lot_count, run}
 use Rattle.amr_lots.proofs.Runs.{map_run}
-use Rattle.amr_advance.specs.declared.kept.KeptLayout.{KeptLayout}
-use Rattle.amr_advance.specs.declared.kept.Stale.{Stale}
+use Rattle.amr_advance.specs.declared.kept_layout.KeptLayout.{KeptLayout}
+use Rattle.amr_advance.specs.declared.kept_layout.Stale.{Stale}
 use Rattle.amr_advance.specs.declared.lots.Lots.{Lots}
-use Rattle.amr_advance.specs.Kept.{Forgets, IsKeptLayout, IsKeptOf, IsLaidOut, StaysKept}
+use Rattle.amr_advance.specs.KeptLayouts.{Forgets, IsKeptLayout, IsKeptOf, IsLaidOut, StaysKept}
 use Rattle.amr_advance.specs.Lots.{AreLots, AreLotsFor, AreMade, CarryMasses, HasLayoutsOf, HasOthersOf, HasValues, HasWordsOf, IsLotOf, IsWholeLot, PutsLieOn, ServesRun, StillServe, is_one}
 use Rattle.amr_advance.proofs.LotsAgain.{lots_again, several_again}
 use Rattle.amr_faces.specs.Faces.{masked_faces}
@@ -122,7 +122,7 @@ same_room : (ps qs : List Patch) (n : ℕ) → map box ps ≡ map box qs → All
 same_room ps qs n e h k q lt = subst (λ (b : Extent). width b ≤ n) (box_at ps qs k q e) (h k q (omega (arith, lt, same_length ps qs e)))
 
 -- the sides on which flows lie
-same_sides : (v : LevelFlows) (sides : List Sides) (ps qs : List Patch) → map box ps ≡ map box qs → HasFlowsIn v sides ps → HasFlowsIn v sides qs
+same_sides : (v : LevelFlows) (sides : List PatchSides) (ps qs : List Patch) → map box ps ≡ map box qs → HasFlowsIn v sides ps → HasFlowsIn v sides qs
 same_sides v sides ps qs e h = record {
   there = λ k lt. h.there k (omega (arith, lt, same_length ps qs e));
   count = h.count ∙ same_length ps qs e;

@@ -27,7 +27,7 @@ use Rattle.amr_patch.specs.declared.patches.Patch.{Patch}
 use Rattle.amr_patch.specs.Patches.{ArePatchesApart, box, masses_in}
 use Rattle.amr_register.specs.declared.edges.EdgeCell.{EdgeCell}
 use Rattle.amr_advance.specs.declared.lots.Lots.{Lots}
-use Rattle.amr_advance.specs.Lots.{AreLots, AreLotsFor, AreMade, AreSeveralLots, CarryMasses, HasOthersOf, HasValues, IsBoxOf, IsLotOf, StillServe, is_one}
+use Rattle.amr_advance.specs.Lots.{AreLots, AreLotsFor, AreMade, AreSeveralLots, CarryMasses, HasOthersOf, HasValues, AreMessagesOf, IsLotOf, StillServe, is_one}
 use Rattle.amr_advance.proofs.Boxes.{all_packed, box_copies, box_packed}
 use Rattle.amr_advance.proofs.LotsAgain.{lots_again, several_again}
 use Rattle.amr_advance.proofs.LotsHanded.{when_lent}
@@ -180,6 +180,6 @@ module _ {t : Lots} (ps : List Patch) (made : AreLotsFor (map box ps) t) where
       let y : Message = get_or b.workspace.outbox.items i m in
       let of = (several_of.lots k x there).serves in
       let packed = (new.lots k x there).packed in
-      let out : IsBoxOf made.lots.parts (λ n. k * length t.lots.items + n) k (length t.lots.items) b.workspace.outbox.items = box_packed of.outbox (run t.each k ps) b.workspace.outbox.items there packed in
+      let out : AreMessagesOf made.lots.parts (λ n. k * length t.lots.items + n) k (length t.lots.items) b.workspace.outbox.items = box_packed of.outbox (run t.each k ps) b.workspace.outbox.items there packed in
       let takes : All (λ (m : Message). All (IsTaken (run t.each k ps)) m.copies.items × HasPlaces m) b.workspace.outbox.items = box_copies out (IsTaken (run t.each k ps)) b.workspace.copies (λ j to. taken_from k j b.workspace.copies there to) in
       packed_carries t.each k ps (run t.each k ps) apart (run_is t.each k ps) y.copies.items y.masses.items (takes i m below).0 (all_packed (run t.each k ps) a.workspace.outbox.items b.workspace.outbox.items packed i m below)

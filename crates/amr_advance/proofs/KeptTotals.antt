@@ -3,9 +3,9 @@ use Rattle.std.proofs.Common.{◌≡◌, ◌∙◌, ◌+◌, ◌*◌, Bool, true
 use Rattle.std.specs.Global.{Box}
 use Rattle.amr_layout.specs.Surroundings.{Around}
 use Rattle.amr_lots.specs.declared.lot.Lot.{Lot}
-use Rattle.amr_advance.specs.declared.kept.KeptLayout.{KeptLayout}
+use Rattle.amr_advance.specs.declared.kept_layout.KeptLayout.{KeptLayout}
 use Rattle.amr_advance.specs.declared.lots.Lots.{Lots}
-use Rattle.amr_advance.specs.Kept.{HasFirstTotals, IsLaidOut, totals_kept}
+use Rattle.amr_advance.specs.KeptLayouts.{HasFirstTotals, IsLaidOut, totals_kept}
 use Rattle.amr_advance.specs.Lots.{AreLots, AreMade, IsOneLot, first_totals, is_one, totals_by}
 
 -- those of the lot that is all of its level

@@ -13,7 +13,7 @@ use Rattle.amr_def.specs.declared.problem.Problem.{Problem}
 use Rattle.amr_def.specs.State.{Masses}
 use Rattle.amr_patch.specs.declared.levels.Level.{Level}
 use Rattle.amr_ghost.specs.declared.outer.OuterGhosts.{OuterGhosts}
-use Rattle.amr_ghost.specs.declared.sources.Span.{Span}
+use Rattle.amr_ghost.specs.declared.sources.GhostSpan.{GhostSpan}
 use Rattle.amr_ghost.specs.Frames.{old_masses}
 use Rattle.amr_ghost.specs.Outer.{HasOuterPlaces, lent, value_count}
 use Rattle.amr_lots.specs.declared.lot.Lot.{Lot}
@@ -107,7 +107,7 @@ still_find d xs ys h step may = λ k x lt.
     let below : k < length xs = omega (arith, lt, n) in
     step (get_or xs k x) (get_or ys k x) (AllZip-get_or KeepsAllButLent xs ys k x x h below) (may k x below)
 
-pub spans_kept : (d : (s : Vec Span) → Type 0) (a b : Box Lot) → KeepsAllButLent a b → d a.value.workspace.outer.spans → d b.value.workspace.outer.spans
+pub spans_kept : (d : (s : Vec GhostSpan) → Type 0) (a b : Box Lot) → KeepsAllButLent a b → d a.value.workspace.outer.spans → d b.value.workspace.outer.spans
 spans_kept d a b h = subst d (sym h.spans)
 
 pub places_kept : (a b : Box Lot) → KeepsAllButLent a b → HasOuterPlaces a.value.workspace.outer → HasOuterPlaces b.value.workspace.outer

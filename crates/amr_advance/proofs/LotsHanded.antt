@@ -25,7 +25,7 @@ use Rattle.amr_lots.specs.FrameValues.{HasValuesOrLevel}
 use Rattle.amr_lots.specs.Runs.{HasBoxes, KeepAllButEdges, KeepAllButMessages, KeepOthers, run}
 use Rattle.amr_advance.specs.declared.lots.Lots.{Lots}
 use Rattle.amr_advance.specs.Cuts.{IsWorkspaceOf}
-use Rattle.amr_advance.specs.Lots.{AreSeveralLots, CarryMasses, IsBoxOf}
+use Rattle.amr_advance.specs.Lots.{AreSeveralLots, CarryMasses, AreMessagesOf}
 use Rattle.amr_advance.specs.Registers.{AreEdgesFor}
 use Rattle.amr_advance.specs.Handed.{AreExchanged, AreHanded, AreLent}
 use Rattle.amr_advance.proofs.Boxes.{IsPackedFrom}
@@ -102,13 +102,13 @@ module _ {p : Problem} {l : ℕ} {old : Masses} {ps : List Patch} {cells : List 
   boxes xs lots = λ k x lt. let of = (lots.of k x (omega (arith, lt, lots.count))).serves in (of.outbox.count ∙ sym lots.count, of.inbox.count ∙ sym lots.count)
 
   -- a workspace that keeps what it was made with, and has messages of the same copies
-  pub still_workspace : {a : Workspace} {k : ℕ} → IsWorkspaceOf s t.each k runs parts a → (b : Workspace) → KeepsPlan a b → IsBoxOf parts (λ u. k * runs + u) k runs b.outbox.items → IsBoxOf parts (λ u. u * runs + k) k runs b.inbox.items → IsWorkspaceOf s t.each k runs parts b
+  pub still_workspace : {a : Workspace} {k : ℕ} → IsWorkspaceOf s t.each k runs parts a → (b : Workspace) → KeepsPlan a b → AreMessagesOf parts (λ u. k * runs + u) k runs b.outbox.items → AreMessagesOf parts (λ u. u * runs + k) k runs b.inbox.items → IsWorkspaceOf s t.each k runs parts b
   still_workspace of b plan outbox inbox = record { serves = still_serves of.serves b plan outbox inbox; words = still_words b plan of.words; layouts = still_layouts b plan of.layouts }
 
   -- and so all
   pub still_lots : (xs ys : List (Box Lot)) → AreRunLots xs → length xs ≡ length ys → ((k : ℕ) (x : Box Lot) → k < runs → KeepsPlan (get_or xs k x).value.workspace (get_or ys k x).value.workspace) → ((k : ℕ) (x : Box Lot) → k < runs → (get_or ys k x).value.workspace.outer ≡ (get_or xs k x).value.workspace.outer)
       → ((k : ℕ) (x : Box Lot) → k < runs → (get_or ys k x).value.before ≡ (get_or xs k x).value.before)
-      → ((k : ℕ) (x : Box Lot) → k < runs → IsBoxOf parts (λ u. k * runs + u) k runs (get_or ys k x).value.workspace.outbox.items) → ((k : ℕ) (x : Box Lot) → k < runs → IsBoxOf parts (λ u. u * runs + k) k runs (get_or ys k x).value.workspace.inbox.items) → AreRunLots ys
+      → ((k : ℕ) (x : Box Lot) → k < runs → AreMessagesOf parts (λ u. k * runs + u) k runs (get_or ys k x).value.workspace.outbox.items) → ((k : ℕ) (x : Box Lot) → k < runs → AreMessagesOf parts (λ u. u * runs + k) k runs (get_or ys k x).value.workspace.inbox.items) → AreRunLots ys
   still_lots xs ys lots same plan outer before outbox inbox = record {
     count = sym same ∙ lots.count;
     of = λ k x lt. still_workspace (lots.of k x lt) (get_or ys k x).value.workspace (plan k x lt) (outbox k x lt) (inbox k x lt);

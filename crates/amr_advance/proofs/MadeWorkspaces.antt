@@ -4,12 +4,12 @@ use Rattle.std.specs.List.{range_with_len}
 use Rattle.std.proofs.Math.Nat.{mul-le-mul_left}
 use Rattle.std.proofs.lemmas.List.{get_or-map, length-drop, length-map, length-take}
 use Rattle.std.proofs.lemmas.List.FromFn.{fill_by_all}
-use Rattle.amr_flux.specs.declared.fluxes.Sides.{Sides}
+use Rattle.amr_flux.specs.declared.fluxes.PatchSides.{PatchSides}
 use Rattle.amr_ghost.specs.declared.messages.Message.{Message}
 use Rattle.amr_ghost.specs.declared.parts.FrameParts.{FrameParts}
 use Rattle.amr_layout.specs.declared.FlowTo.{FlowTo}
 use Rattle.amr_layout.specs.declared.PatchLayout.{PatchLayout}
-use Rattle.amr_layout.specs.declared.alone.LevelFlows.{LevelFlows}
+use Rattle.amr_layout.specs.declared.level_flows.LevelFlows.{LevelFlows}
 use Rattle.amr_layout.specs.Adds.{flows_of}
 use Rattle.amr_layout.specs.LevelFlowLists.{AreFlowsOf, HasFlowsAt, flow_lists, flows_at}
 use Rattle.amr_layout.specs.PartFlows.{AreNumbered}
@@ -23,7 +23,7 @@ use Rattle.amr_patch.specs.declared.patches.Patch.{Patch}
 use Rattle.amr_patch.specs.Patches.{box}
 use Rattle.amr_patch.proofs.Rows.{place_within}
 use Rattle.amr_advance.specs.Cuts.{AreLayoutsOfRun, IsRunOf}
-use Rattle.amr_advance.specs.Lots.{IsBoxOf, PutsLieOn}
+use Rattle.amr_advance.specs.Lots.{AreMessagesOf, PutsLieOn}
 use Rattle.amr_advance.proofs.MadeMessages.{AreMadeFor}
 use Rattle.amr_advance.proofs.RunZips.{zip_length}
 
@@ -39,7 +39,7 @@ pub few_places : (k runs : ℕ) → k < runs → runs ≤ 2 ^ 26 → k * runs + 
 few_places k runs there few = let most : k * runs ≤ k * 2 ^ 26 = mul-le-mul_left k few in omega (arith, most, there, few)
 
 -- messages for the copies at these places
-pub box_made : (parts : FrameParts) (place : ℕ → ℕ) (k runs first stride : ℕ) (xs : List Message) → k < runs → ((t : ℕ) → first + t * stride ≡ place t) → AreMadeFor parts.copies.items first stride k runs xs → IsBoxOf parts place k runs xs
+pub box_made : (parts : FrameParts) (place : ℕ → ℕ) (k runs first stride : ℕ) (xs : List Message) → k < runs → ((t : ℕ) → first + t * stride ≡ place t) → AreMadeFor parts.copies.items first stride k runs xs → AreMessagesOf parts place k runs xs
 box_made parts place k runs first stride xs there at made = record {
   count = made.count;
   copies = λ t m v lt other. made.copies t m v lt other ∙ ap (λ n. (get_or parts.copies.items n v).items) (at t);
@@ -84,9 +84,9 @@ module _ (s : Around) (each k count : ℕ) (of : IsRunOf each k count (length s.
   layout_count ts h = sym (zip_length (HasMask (domain_around s) s.patches each) (run each k s.patches) ts h.masks)
 
   -- sides on which what they put lies, by other names of the patches and layouts
-  pub sides_there : (qs : List Patch) (ts us : List PatchLayout) (ds : List Sides) → AreLayoutsOfRun s each k ts → qs ≡ run each k s.patches → us ≡ ts
-      → ((i : ℕ) (q : Patch) (t : PatchLayout) (d : Sides) → i < length qs → i < length us → PutsLieOn (get_or ds i d) (box (get_or qs i q)) (get_or us i t).puts.items)
-      → (i : ℕ) (q : Patch) (t : PatchLayout) (d : Sides) → i < length (run each k s.patches) → PutsLieOn (get_or ds i d) (box (get_or (run each k s.patches) i q)) (get_or ts i t).puts.items
+  pub sides_there : (qs : List Patch) (ts us : List PatchLayout) (ds : List PatchSides) → AreLayoutsOfRun s each k ts → qs ≡ run each k s.patches → us ≡ ts
+      → ((i : ℕ) (q : Patch) (t : PatchLayout) (d : PatchSides) → i < length qs → i < length us → PutsLieOn (get_or ds i d) (box (get_or qs i q)) (get_or us i t).puts.items)
+      → (i : ℕ) (q : Patch) (t : PatchLayout) (d : PatchSides) → i < length (run each k s.patches) → PutsLieOn (get_or ds i d) (box (get_or (run each k s.patches) i q)) (get_or ts i t).puts.items
   sides_there qs ts us ds h patches layouts lie i q t d lt =
       subst (λ (rs : List Patch). PutsLieOn (get_or ds i d) (box (get_or rs i q)) (get_or ts i t).puts.items) patches
       (subst (λ (vs : List PatchLayout). PutsLieOn (get_or ds i d) (box (get_or qs i q)) (get_or vs i t).puts.items) layouts

@@ -15,7 +15,7 @@ use Rattle.amr_def.specs.Value.{value_at}
 use Rattle.amr_def.specs.Domain.{domain}
 use Rattle.amr_ghost.specs.declared.outer.OuterGhosts.{OuterGhosts}
 use Rattle.amr_ghost.specs.declared.parts.FrameParts.{FrameParts}
-use Rattle.amr_ghost.specs.declared.sources.Span.{Span}
+use Rattle.amr_ghost.specs.declared.sources.GhostSpan.{GhostSpan}
 use Rattle.amr_ghost.specs.Frames.{is_of_level}
 use Rattle.amr_ghost.specs.Messages.{CarriesMasses}
 use Rattle.amr_ghost.specs.Outer.{AreOuterValuesFor, HasNoMass, HasOuterPlaces, IsOuterSpan, lent, value_count}
@@ -121,7 +121,7 @@ same_values p l old x y spans values h m none =
     let V = value_at p l m old in
     let M = is_of_level p l m in
     subst (λ (v : Vec ℕ). AreOuterValuesFor V M y.spans.items v.items) (sym values)
-    (subst (λ (s : Vec Span). AreOuterValuesFor V M s.items x.values.items) (sym spans) (h m (subst (λ (s : Vec Span). All (HasNoMass (domain p l) m) s.items) spans none)))
+    (subst (λ (s : Vec GhostSpan). AreOuterValuesFor V M s.items x.values.items) (sym spans) (h m (subst (λ (s : Vec GhostSpan). All (HasNoMass (domain p l) m) s.items) spans none)))
 
 lent_none : (o : Option (Arc Level Global)) → lent o ≡ None → o ≡ None
 lent_none None h = refl

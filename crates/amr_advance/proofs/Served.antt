@@ -3,13 +3,13 @@ use Rattle.std.proofs.Common.{◌≡◌, ◌∙◌, ℕ, ◌+◌, ◌*◌, ◌<�
 use Rattle.std.specs.Global.{Box, Vec}
 use Rattle.std.specs.List.{All, AllZip}
 use Rattle.amr_flux.specs.Rooms.{widest}
-use Rattle.amr_flux.specs.declared.fluxes.Sides.{Sides}
+use Rattle.amr_flux.specs.declared.fluxes.PatchSides.{PatchSides}
 use Rattle.amr_ghost.specs.Outer.{HasOuterPlaces}
 use Rattle.amr_ghost.specs.declared.messages.Message.{Message}
 use Rattle.amr_ghost.specs.declared.parts.FrameParts.{FrameParts}
 use Rattle.amr_layout.specs.declared.FlowTo.{FlowTo}
 use Rattle.amr_layout.specs.declared.PatchLayout.{PatchLayout}
-use Rattle.amr_layout.specs.declared.alone.LevelFlows.{LevelFlows}
+use Rattle.amr_layout.specs.declared.level_flows.LevelFlows.{LevelFlows}
 use Rattle.amr_layout.specs.Adds.{flows_of}
 use Rattle.amr_layout.specs.LevelFlowLists.{AreFlowsOf, flow_lists}
 use Rattle.amr_layout.specs.Places.{HasMask}
@@ -23,7 +23,7 @@ use Rattle.amr_lots.specs.Duties.{HasSent}
 use Rattle.amr_lots.specs.Works.{KeepsLayout, places_read}
 use Rattle.amr_patch.specs.declared.patches.Patch.{Patch}
 use Rattle.amr_patch.specs.Patches.{box}
-use Rattle.amr_advance.specs.Lots.{HasLayoutsOf, HasOthersOf, HasWordsOf, IsBoxOf, IsLotOf, IsWholeLot, PutsLieOn, ServesRun}
+use Rattle.amr_advance.specs.Lots.{HasLayoutsOf, HasOthersOf, HasWordsOf, AreMessagesOf, IsLotOf, IsWholeLot, PutsLieOn, ServesRun}
 
 -- all that a workspace has by boxes alone, but for its messages
 pub record KeepsPlan (a b : Workspace) : Type 0 where
@@ -62,7 +62,7 @@ plan_stepped a b h places = record { layouts = h.layouts; flows = h.flows; sides
 
 module _ {s : Around} {each k runs : ℕ} {parts : FrameParts} {a : Workspace} (of : ServesRun s each k runs parts a) (b : Workspace) (plan : KeepsPlan a b) where
   -- so it serves its run as before, where it has messages of the same copies
-  pub still_serves : IsBoxOf parts (λ t. k * runs + t) k runs b.outbox.items → IsBoxOf parts (λ u. u * runs + k) k runs b.inbox.items → ServesRun s each k runs parts b
+  pub still_serves : AreMessagesOf parts (λ t. k * runs + t) k runs b.outbox.items → AreMessagesOf parts (λ u. u * runs + k) k runs b.inbox.items → ServesRun s each k runs parts b
   still_serves outbox inbox = record {
     copies = λ v. (λ i. (plan.copies i).items) ∙ of.copies v;
     outer = λ v. (λ i. (plan.spans i).items) ∙ of.outer v;
@@ -70,14 +70,14 @@ module _ {s : Around} {each k runs : ℕ} {parts : FrameParts} {a : Workspace} (
     outbox = outbox;
     inbox = inbox;
     room = λ i q lt_i. let r = of.room i q lt_i in omega (arith, r, plan.room);
-    flows = subst (λ (v : LevelFlows). HasFlowsIn v b.sides.items (run each k s.patches)) (sym plan.flows) (subst (λ (d : Vec Sides). HasFlowsIn a.flows d.items (run each k s.patches)) (sym plan.sides) of.flows);
+    flows = subst (λ (v : LevelFlows). HasFlowsIn v b.sides.items (run each k s.patches)) (sym plan.flows) (subst (λ (d : Vec PatchSides). HasFlowsIn a.flows d.items (run each k s.patches)) (sym plan.sides) of.flows);
   }
 
-  pub same_outbox : b.outbox ≡ a.outbox → IsBoxOf parts (λ t. k * runs + t) k runs b.outbox.items
-  same_outbox is = subst (λ (xs : Vec Message). IsBoxOf parts (λ t. k * runs + t) k runs xs.items) (sym is) of.outbox
+  pub same_outbox : b.outbox ≡ a.outbox → AreMessagesOf parts (λ t. k * runs + t) k runs b.outbox.items
+  same_outbox is = subst (λ (xs : Vec Message). AreMessagesOf parts (λ t. k * runs + t) k runs xs.items) (sym is) of.outbox
 
-  pub same_inbox : b.inbox ≡ a.inbox → IsBoxOf parts (λ u. u * runs + k) k runs b.inbox.items
-  same_inbox is = subst (λ (xs : Vec Message). IsBoxOf parts (λ u. u * runs + k) k runs xs.items) (sym is) of.inbox
+  pub same_inbox : b.inbox ≡ a.inbox → AreMessagesOf parts (λ u. u * runs + k) k runs b.inbox.items
+  same_inbox is = subst (λ (xs : Vec Message). AreMessagesOf parts (λ u. u * runs + k) k runs xs.items) (sym is) of.inbox
 
   pub serves_same : b.outbox ≡ a.outbox → b.inbox ≡ a.inbox → ServesRun s each k runs parts b
   serves_same out in_ = still_serves (same_outbox out) (same_inbox in_)
@@ -102,12 +102,12 @@ module _ {s : Around} {each k : ℕ} {a : Workspace} (b : Workspace) (plan : Kee
     masks = subst (λ (ts : Vec PatchLayout). AllZip (HasMask (domain_around s) s.patches each) (run each k s.patches) ts.items) (sym plan.layouts) of.masks;
     sides = λ i q t d lt.
         subst (λ (ts : Vec PatchLayout). PutsLieOn (get_or b.sides.items i d) (box (get_or (run each k s.patches) i q)) (get_or ts.items i t).puts.items) (sym plan.layouts)
-        (subst (λ (ds : Vec Sides). PutsLieOn (get_or ds.items i d) (box (get_or (run each k s.patches) i q)) (get_or a.layouts.items i t).puts.items) (sym plan.sides) (of.sides i q t d lt));
+        (subst (λ (ds : Vec PatchSides). PutsLieOn (get_or ds.items i d) (box (get_or (run each k s.patches) i q)) (get_or a.layouts.items i t).puts.items) (sym plan.sides) (of.sides i q t d lt));
     sizes = omega (arith, of.sizes, plan.sizes, ap (λ (ts : Vec PatchLayout). length (places_read ts.items)) plan.layouts);
   }
 
 -- so a lot is the lot of the same run
-pub still_lot : {s : Around} {each k runs : ℕ} {parts : FrameParts} {a : Lot} → IsLotOf s each k runs parts a → (b : Lot) → KeepsPlan a.workspace b.workspace → IsBoxOf parts (λ t. k * runs + t) k runs b.workspace.outbox.items → IsBoxOf parts (λ u. u * runs + k) k runs b.workspace.inbox.items
+pub still_lot : {s : Around} {each k runs : ℕ} {parts : FrameParts} {a : Lot} → IsLotOf s each k runs parts a → (b : Lot) → KeepsPlan a.workspace b.workspace → AreMessagesOf parts (λ t. k * runs + t) k runs b.workspace.outbox.items → AreMessagesOf parts (λ u. u * runs + k) k runs b.workspace.inbox.items
     → HasOthersOf (run each k s.patches) b → IsLotOf s each k runs parts b
 still_lot of b plan outbox inbox others = record {
   serves = still_serves of.serves b.workspace plan outbox inbox;

@@ -6,9 +6,9 @@ use Rattle.amr_layout.specs.Surroundings.{Around}
 use Rattle.amr_patch.specs.declared.patches.Patch.{Patch}
 use Rattle.amr_patch.specs.Patches.{masses_in}
 use Rattle.amr_register.specs.declared.edges.EdgeCell.{EdgeCell}
-use Rattle.amr_advance.specs.declared.kept.KeptLayout.{KeptLayout}
+use Rattle.amr_advance.specs.declared.kept_layout.KeptLayout.{KeptLayout}
 use Rattle.amr_advance.specs.declared.lots.Lots.{Lots}
-use Rattle.amr_advance.specs.Kept.{IsLaidOut}
+use Rattle.amr_advance.specs.KeptLayouts.{IsLaidOut}
 use Rattle.amr_advance.specs.Steps.{AreTotalsOf, HasMadeStep, HaveSettled, LotsMadeStep}
 use Rattle.amr_advance.proofs.KeptLaws.{with_lots}
 use Rattle.amr_advance.proofs.OuterLots.{all_lent, carry_kept, lots_kept, totals_kept, values_settled}

@@ -12,14 +12,14 @@ use Rattle.amr_ghost.specs.declared.parts.FrameParts.{FrameParts}
 use Rattle.amr_lots.specs.declared.lot.Lot.{Lot}
 use Rattle.amr_lots.specs.Runs.{run}
 use Rattle.amr_patch.specs.declared.patches.Patch.{Patch}
-use Rattle.amr_advance.specs.Lots.{CarryMasses, IsBoxOf}
+use Rattle.amr_advance.specs.Lots.{CarryMasses, AreMessagesOf}
 
 -- run 0 of patches that are no more than a run is all of them
 pub whole_run : (each : ℕ) (ps : List Patch) → length ps ≤ each → run each 0 ps ≡ ps
 whole_run each ps le = let none : 0 * each ≡ 0 = omega arith in ap (λ n. take each (drop n ps)) none ∙ take_all each ps le
 
 -- a message to itself is empty
-module _ {parts : FrameParts} {place : ℕ → ℕ} {xs : List Message} (b : IsBoxOf parts place 0 1 xs) where
+module _ {parts : FrameParts} {place : ℕ → ℕ} {xs : List Message} (b : AreMessagesOf parts place 0 1 xs) where
   at_zero : (u : ℕ) → u < 1 → u ≡ 0
   at_zero u lt = omega (arith, lt)
 

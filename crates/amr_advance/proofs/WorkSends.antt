@@ -7,12 +7,12 @@ use Rattle.std.proofs.alloc.Global.TheSendSync.{the_send as global_send, the_syn
 use Rattle.std.below.std_heap.proofs.GlobalAllocator.TheSendSync.{the_frees as frees}
 use Rattle.std.proofs.boxed.Box.TheSendSync.{the_send as box_send}
 use Rattle.std.proofs.vec.Vec.TheSendSync.{the_send as vec_send}
-use Rattle.amr_flux.proofs.fluxes.Sides.TheSendSync.{the_send as sides_send}
+use Rattle.amr_flux.proofs.fluxes.PatchSides.TheSendSync.{the_send as sides_send}
 use Rattle.amr_flux.proofs.room.Room.TheSendSync.{the_send as room_send}
 use Rattle.amr_ghost.proofs.messages.Message.TheSendSync.{the_send as message_send}
 use Rattle.amr_ghost.proofs.outer.OuterGhosts.TheSendSync.{the_send as outer_send}
 use Rattle.amr_ghost.proofs.parts.FrameCopy.TheSendSync.{the_send as copy_send}
-use Rattle.amr_layout.proofs.alone.LevelFlows.TheSendSync.{the_send as flows_send}
+use Rattle.amr_layout.proofs.level_flows.LevelFlows.TheSendSync.{the_send as flows_send}
 use Rattle.amr_layout.proofs.PatchLayout.TheSendSync.{the_send as layout_send}
 use Rattle.amr_lots.proofs.lot.Correction.TheSendSync.{the_send as correction_send}
 use Rattle.amr_lots.proofs.lot.Duty.TheSendSync.{the_send as duty_send}

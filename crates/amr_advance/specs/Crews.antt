@@ -4,7 +4,7 @@ use Rattle.amr_def.specs.declared.problem.Problem.{Problem}
 use Rattle.amr_workers.specs.TeamOf.{TeamOf}
 use Rattle.amr_lots.specs.declared.job.LevelWork.{LevelWork}
 use Rattle.amr_advance.specs.declared.crew.Workers.{Workers}
-use Rattle.amr_advance.specs.declared.regs.Crew.{Crew}
+use Rattle.amr_advance.specs.declared.crew.Crew.{Crew}
 
 -- a team for phases of this problem under this gate, of at most so many workers
 pub record IsTeamFor {G : Type 0} (p : Problem) (gate : G) (count : ℕ) (team : TeamOf LevelWork G) : Type 0 where

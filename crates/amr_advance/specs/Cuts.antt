@@ -6,7 +6,7 @@ use Rattle.amr_ghost.specs.Frames.{AreInDomain}
 use Rattle.amr_ghost.specs.declared.parts.FrameParts.{FrameParts}
 use Rattle.amr_layout.specs.declared.FlowTo.{FlowTo}
 use Rattle.amr_layout.specs.declared.PatchLayout.{PatchLayout}
-use Rattle.amr_layout.specs.declared.alone.LevelFlows.{LevelFlows}
+use Rattle.amr_layout.specs.declared.level_flows.LevelFlows.{LevelFlows}
 use Rattle.amr_layout.specs.declared.adds.Surroundings.{Surroundings}
 use Rattle.amr_layout.specs.LevelFlowLists.{AreFlowsOf}
 use Rattle.amr_layout.specs.Arounds.{all_places_read, all_puts}

@@ -2,7 +2,7 @@ pub mod Correction
 pub mod Crews
 pub mod Cuts
 pub mod Handed
-pub mod Kept
+pub mod KeptLayouts
 pub mod Lots
 pub mod Outer
 pub mod Phases

@@ -8,8 +8,8 @@ use Rattle.amr_box.specs.Cells.{Extent, width}
 use Rattle.amr_def.specs.State.{Masses}
 use Rattle.amr_def.specs.declared.problem.Problem.{Problem}
 use Rattle.amr_flux.specs.Rooms.{widest}
-use Rattle.amr_flux.specs.Sides.{includes, side_of}
-use Rattle.amr_flux.specs.declared.fluxes.Sides.{Sides}
+use Rattle.amr_flux.specs.PatchSides.{includes, side_of}
+use Rattle.amr_flux.specs.declared.fluxes.PatchSides.{PatchSides}
 use Rattle.amr_ghost.specs.Messages.{CarriesMasses, HasPlaces}
 use Rattle.amr_ghost.specs.Outer.{HasOuterPlaces}
 use Rattle.amr_ghost.specs.Parts.{IsParted}
@@ -18,7 +18,7 @@ use Rattle.amr_ghost.specs.declared.messages.Message.{Message}
 use Rattle.amr_ghost.specs.declared.parts.FrameCopy.{FrameCopy}
 use Rattle.amr_ghost.specs.declared.parts.FrameParts.{FrameParts}
 use Rattle.amr_ghost.specs.declared.plan.FramePlan.{FramePlan}
-use Rattle.amr_ghost.specs.declared.sources.Span.{Span}
+use Rattle.amr_ghost.specs.declared.sources.GhostSpan.{GhostSpan}
 use Rattle.amr_layout.specs.declared.FlowTo.{FlowTo}
 use Rattle.amr_layout.specs.declared.PatchLayout.{PatchLayout}
 use Rattle.amr_layout.specs.declared.PutAt.{PutAt}
@@ -43,7 +43,7 @@ use Rattle.amr_advance.specs.declared.lots.Lots.{Lots}
 -- ---- the workspace of a run
 
 -- messages between run k and each other run, for the copies at these places of the parts of a plan. That between it and itself is empty.
-pub record IsBoxOf (parts : FrameParts) (place : ℕ → ℕ) (k runs : ℕ) (xs : List Message) : Type 0 where
+pub record AreMessagesOf (parts : FrameParts) (place : ℕ → ℕ) (k runs : ℕ) (xs : List Message) : Type 0 where
   pub count : length xs ≡ runs
   pub copies : (t : ℕ) (m : Message) (v : Vec FrameCopy) → t < runs → t ≢ k
       → (slice_index_or xs t m).copies.items ≡ (slice_index_or parts.copies.items (place t) v).items
@@ -53,10 +53,10 @@ pub record IsBoxOf (parts : FrameParts) (place : ℕ → ℕ) (k runs : ℕ) (xs
 -- a workspace serves run k of a level's patches, in runs of so many each, by a plan of the level's frames in parts
 pub record ServesRun (s : Around) (each k runs : ℕ) (parts : FrameParts) (x : Workspace) : Type 0 where
   pub copies : (v : Vec FrameCopy) → x.copies.items ≡ (slice_index_or parts.copies.items (k * runs + k) v).items
-  pub outer : (v : Vec Span) → x.outer.spans.items ≡ (slice_index_or parts.outer.items k v).items
+  pub outer : (v : Vec GhostSpan) → x.outer.spans.items ≡ (slice_index_or parts.outer.items k v).items
   pub outer_places : HasOuterPlaces x.outer
-  pub outbox : IsBoxOf parts (λ t. k * runs + t) k runs x.outbox.items
-  pub inbox : IsBoxOf parts (λ u. u * runs + k) k runs x.inbox.items
+  pub outbox : AreMessagesOf parts (λ t. k * runs + t) k runs x.outbox.items
+  pub inbox : AreMessagesOf parts (λ u. u * runs + k) k runs x.inbox.items
   pub room : All (λ q. width (box q) ≤ widest x.room) (run each k s.patches)
   pub flows : HasFlowsIn x.flows x.sides.items (run each k s.patches)
 
@@ -68,7 +68,7 @@ pub record HasWordsOf (s : Around) (each k : ℕ) (x : Workspace) : Type 0 where
   pub totals : length x.totals.items ≡ length x.words.items
 
 -- puts of what flows through faces on these sides of a box
-abbrev pub PutsLieOn : Sides → Extent → List PutAt → Type 0
+abbrev pub PutsLieOn : PatchSides → Extent → List PutAt → Type 0
 PutsLieOn d b = All (λ (x : PutAt). includes d (side_of b x.face) ≡ true)
 
 -- what its patches put on a board and read there, where groups of so many patches are apart
@@ -76,7 +76,7 @@ pub record HasLayoutsOf (s : Around) (each k : ℕ) (x : Workspace) : Type 0 whe
   pub puts : map (λ (t : PatchLayout). t.puts.items) x.layouts.items ≡ run each k (all_puts s each)
   pub borders : map (λ (t : PatchLayout). t.border.items) x.layouts.items ≡ run each k (all_places_read s each)
   pub masks : AllZip (HasMask (domain_around s) s.patches each) (run each k s.patches) x.layouts.items
-  pub sides : (i : ℕ) (q : Patch) (t : PatchLayout) (d : Sides) → i < length (run each k s.patches)
+  pub sides : (i : ℕ) (q : Patch) (t : PatchLayout) (d : PatchSides) → i < length (run each k s.patches)
       → PutsLieOn (slice_index_or x.sides.items i d) (box (slice_index_or (run each k s.patches) i q)) (slice_index_or x.layouts.items i t).puts.items
   pub sizes : length (places_read x.layouts.items) ≤ length x.sizes.items
 

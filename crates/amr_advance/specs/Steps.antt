@@ -26,11 +26,11 @@ use Rattle.amr_register.specs.declared.edges.EdgeCell.{EdgeCell}
 use Rattle.amr_register.specs.declared.register.Register.{Register}
 use Rattle.amr_register.specs.EdgeCells.{IsSmallNet, SameEdges}
 use Rattle.amr_register.specs.Fields.{HasEdgesOf}
-use Rattle.amr_advance.specs.declared.kept.KeptLayout.{KeptLayout}
+use Rattle.amr_advance.specs.declared.kept_layout.KeptLayout.{KeptLayout}
 use Rattle.amr_advance.specs.declared.level.StepInput.{StepInput}
 use Rattle.amr_advance.specs.declared.lots.Lots.{Lots}
-use Rattle.amr_advance.specs.declared.regs.Regs.{Regs}
-use Rattle.amr_advance.specs.Kept.{HasFirstTotals, ServesLevel, totals_in, totals_kept}
+use Rattle.amr_advance.specs.declared.registers.Regs.{Regs}
+use Rattle.amr_advance.specs.KeptLayouts.{HasFirstTotals, ServesLevel, totals_in, totals_kept}
 use Rattle.amr_advance.specs.Lots.{AreLots, CarryMasses, totals_of}
 use Rattle.amr_advance.specs.Outer.{IsLent, IsSharedOf}
 use Rattle.amr_advance.specs.Phases.{IsBasisOf}

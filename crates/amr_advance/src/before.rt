@@ -8,11 +8,11 @@ ghost use Rattle.amr_patch.specs.Patches.{box};
 ghost use Rattle.amr_alike.specs.Copied.{IsCopied};
 ghost use Rattle.amr_lots.specs.declared.lot.Duty.TheVariants.{Keep};
 ghost use Rattle.amr_advance.specs.Crews.{MayRun};
-ghost use Rattle.amr_advance.specs.Kept.{IsKeptLayout, StaysKept};
+ghost use Rattle.amr_advance.specs.KeptLayouts.{IsKeptLayout, StaysKept};
 ghost use Rattle.amr_advance.specs.Lots.{AreLotsFor, StillServe};
 
 use crate::crew::Workers;
-use crate::kept::KeptLayout;
+use crate::kept_layout::KeptLayout;
 use crate::lots::Lots;
 use crate::phases::{PhaseInput, basis_of, serve_lots};
 use amr_alike::{copy_masses, have_boxes};

@@ -17,11 +17,11 @@ ghost use Rattle.amr_register.specs.Fields.{HasEdgesOf, IsPlaced};
 ghost use Rattle.amr_transfer.specs.Sums.{AreCoarsenable};
 ghost use Rattle.amr_advance.specs.Correction.{IsCorrectedLevel, IsLentPart, IsPartFrom, IsTriedLevel, KeepsAllButCorrection, MayCorrectLevel};
 ghost use Rattle.amr_advance.specs.Crews.{MayRun};
-ghost use Rattle.amr_advance.specs.Kept.{IsKeptLayout, StaysKept};
+ghost use Rattle.amr_advance.specs.KeptLayouts.{IsKeptLayout, StaysKept};
 ghost use Rattle.amr_advance.specs.Lots.{AreLotsFor, StillServe};
 
 use crate::crew::Workers;
-use crate::kept::{KeptLayout, Stale, forget};
+use crate::kept_layout::{KeptLayout, Stale, forget};
 use crate::lots::Lots;
 use crate::phases::{PhaseInput, basis_of, serve_lots};
 use amr_alike::have_boxes;

@@ -20,6 +20,15 @@ use std::alloc::Global;
 use std::sync::Wait;
 use std::thread::Threads;
 
+/// Who works on a step: so many ranks, each with so many workers.
+#[derive(Clone, Copy, Debug)]
+pub struct Crew {
+    /// 1 so far.
+    pub ranks: u32,
+    /// From 1 to 64.
+    pub workers: u32,
+}
+
 /// Who makes the steps of levels: so many workers, under a gate that each calls around each task that it draws. They are a team that
 /// lasts from step to step, or threads made for each phase.
 #[derive(Drop)]

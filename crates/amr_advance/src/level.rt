@@ -12,7 +12,7 @@ ghost use Rattle.amr_lots.specs.declared.lot.Lot.{Lot as lot};
 ghost use Rattle.amr_patch.specs.Patches.{box, masses_in};
 ghost use Rattle.amr_register.specs.EdgeCells.{SameEdges, lists_of};
 ghost use Rattle.amr_advance.specs.Crews.{MayRun};
-ghost use Rattle.amr_advance.specs.Kept.{ServesLevel};
+ghost use Rattle.amr_advance.specs.KeptLayouts.{ServesLevel};
 ghost use Rattle.amr_advance.specs.Lots.{AreLots, AreLotsOf, is_one};
 ghost use Rattle.amr_advance.specs.Handed.{HaveBeenHanded};
 ghost use Rattle.amr_advance.specs.Phases.{HasAsMany, HaveMadeStep, IsOpened};
@@ -20,7 +20,7 @@ ghost use Rattle.amr_advance.specs.Registers.{AreEdgesFor};
 ghost use Rattle.amr_advance.specs.Steps.{CanMakeStep, HasMadeStep, LotsMadeStep, HaveSettled, MayMakeStep, MayStepLevel, around_of, coarser_masses};
 
 use crate::crew::Workers;
-use crate::kept::KeptLayout;
+use crate::kept_layout::KeptLayout;
 use crate::lots::{Lots, is_one};
 use crate::outer::{ready_outer, take_back};
 use crate::phases::{PhaseInput, open_lots, run_step, serve_lots};

@@ -7,22 +7,21 @@
 mod before;
 mod correction;
 mod crew;
-mod kept;
+mod kept_layout;
 mod level;
 mod lots;
 mod outer;
 mod phases;
 mod registers;
-mod regs;
 mod steps;
 mod totals;
 mod workspaces;
 
 pub use before::keep_masses;
 pub use correction::correct_kept;
-pub use crew::Workers;
-pub use kept::{KeptLayout, Stale, forget, layout_for};
+pub use crew::{Crew, Workers};
+pub use kept_layout::{KeptLayout, Stale, forget, layout_for};
 pub use level::{StepInput, open_step, ready_lots};
 pub use lots::{Lots, is_one};
-pub use regs::{Crew, Regs};
+pub use registers::Regs;
 pub use steps::{advance, advance_kept};

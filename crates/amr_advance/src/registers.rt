@@ -17,6 +17,19 @@ ghost use Rattle.amr_advance.specs.Registers.{AreEdgesFor, AreNetsOf, BothAreWit
 use amr_register::{EdgeCell, Register};
 use std::alloc::Global;
 
+/// What a step of a level adds to. The flux register of the next coarser level gains what flows through this level's
+/// faces beside its cells. The one over the next finer level loses the level's own flows there. And two sums get what
+/// flowed into the domain and out of it beside cells that no finer level covers. (Berger and Colella 1989)
+#[derive(Drop)]
+pub struct Regs {
+    /// Of the next coarser level, where there is one.
+    pub coarser: Option<Register>,
+    /// Of this level, where there is a finer one.
+    pub finer: Option<Register>,
+    pub inflow: u64,
+    pub outflow: u64,
+}
+
 /// Takes the lists of register cells out of a flux register. There are none where there is no register.
 pub(crate) fn take_edges(alloc: Global, register: &mut Option<Register>) -> Vec<Vec<EdgeCell>>
     ensures lists { lists_of result.items ≡ edges_of register.old }

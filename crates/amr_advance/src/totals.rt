@@ -2,14 +2,13 @@
 //! entries of the next coarser level's register what flowed to the others.
 
 ghost use Rattle.std.specs.Prelude.{◌≡◌, ◌+◌, ◌*◌, ◌<◌, ◌^◌, ℕ, length, slice_index, IfSome};
-ghost use Rattle.amr_advance.specs.Kept.{HasFirstTotals, totals_in};
+ghost use Rattle.amr_advance.specs.KeptLayouts.{HasFirstTotals, totals_in};
 ghost use Rattle.amr_advance.specs.Registers.{cells_of};
 ghost use Rattle.amr_advance.specs.Totals.{SomeHasAbsorbed, SomeMayAbsorb};
 
-use crate::kept::KeptLayout;
+use crate::kept_layout::KeptLayout;
 use crate::lots::totals_of;
-use crate::registers::absorb_totals;
-use crate::regs::Regs;
+use crate::registers::{Regs, absorb_totals};
 
 /// Adds what flowed to all words, by their totals one after another.
 fn add_all(totals: &[u64], regs: &mut Regs)

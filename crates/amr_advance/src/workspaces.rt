@@ -4,7 +4,7 @@ ghost use Rattle.std.specs.Prelude.{◌≡◌, ◌≢◌, ◌+◌, ◌*◌, ◌<
 ghost use Rattle.std.specs.List.{All};
 ghost use Rattle.std.specs.Global.{Vec as vec};
 ghost use Rattle.amr_box.specs.Cells.{width};
-ghost use Rattle.amr_flux.specs.declared.fluxes.Sides.{Sides as sides};
+ghost use Rattle.amr_flux.specs.declared.fluxes.PatchSides.{PatchSides as sides};
 ghost use Rattle.amr_patch.specs.declared.patches.Patch.{Patch as patch};
 ghost use Rattle.amr_patch.specs.Patches.{box};
 ghost use Rattle.amr_ghost.specs.Messages.{HasPlaces};
@@ -16,10 +16,10 @@ ghost use Rattle.amr_layout.specs.Arounds.{around_of};
 ghost use Rattle.amr_lots.specs.Ready.{HasFlowsIn};
 ghost use Rattle.amr_lots.specs.Works.{places_read};
 ghost use Rattle.amr_advance.specs.Cuts.{AreLayoutsOfRun, AreLevelFlows, IsCut, IsRunOf, IsWholeWorkspace, IsWorkspaceOf};
-ghost use Rattle.amr_advance.specs.Lots.{IsBoxOf, PutsLieOn};
+ghost use Rattle.amr_advance.specs.Lots.{AreMessagesOf, PutsLieOn};
 
 use amr_causes::NoMemory;
-use amr_flux::{Room, Sides};
+use amr_flux::{PatchSides, Room};
 use amr_ghost::{FrameCopy, FrameParts, Message, OuterGhosts};
 use amr_layout::{LevelFlows, PatchLayout, PutAt, RunFlows, Surroundings, flows_of_part};
 use amr_lots::{Workspace, sides_of};
@@ -85,8 +85,8 @@ fn messages_of_run(
     requires copies { length parts.now.copies.items ≡ runs * runs }
     requires there { k < runs }
     requires few { runs ≤ 2 ^ 26 }
-    ensures outbox { IfOk result (λ x. IsBoxOf parts.now (λ t. k * runs + t) k runs x.outbox.items) }
-    ensures inbox { IfOk result (λ x. IsBoxOf parts.now (λ u. u * runs + k) k runs x.inbox.items) }
+    ensures outbox { IfOk result (λ x. AreMessagesOf parts.now (λ t. k * runs + t) k runs x.outbox.items) }
+    ensures inbox { IfOk result (λ x. AreMessagesOf parts.now (λ u. u * runs + k) k runs x.inbox.items) }
 {
     Ok(Messages {
         outbox: messages_for(alloc, &parts.copies, k * runs, 1, runs, k)?,
@@ -162,7 +162,7 @@ fn sides_of_run(
     patches: &[Patch],
     flows: &LevelFlows,
     layouts: &[PatchLayout],
-) -> Result<Vec<Sides>, NoMemory>
+) -> Result<Vec<PatchSides>, NoMemory>
     requires { (k : ℕ) → k < length patches.now → HasFlowsAt flows.now k }
     ensures flows { IfOk result (λ ds. HasFlowsIn flows.now ds.items patches.now) }
     ensures puts { IfOk result (λ ds. (k : ℕ) (q : patch) (t : layout) (d : sides) → k < length patches.now → k < length layouts.now

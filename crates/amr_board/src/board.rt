@@ -12,7 +12,9 @@ ghost use lib.ListN.{get_elem?};
 
 use crate::ended::Ended;
 use crate::piece::Piece;
-use crate::rule::{About, Adding, BoardRule, Drawing, Giving, Halves, Looking, Putting, Taking};
+use crate::rule::{
+    Adding, BoardRule, BoardSetup, Drawing, Giving, Halves, Looking, Putting, Taking,
+};
 use crate::slots::{from_slots, to_slots};
 use crate::view::View;
 use atomic_table::{Refused, Table};
@@ -41,7 +43,7 @@ pub type Seat<P> = atomic_table::Seat<Option<P>, View<P>>;
 /// no memory.
 #[derive(Drop)]
 pub struct Board<P: Piece> {
-    table: Table<Option<P>, View<P>, About<P>, BoardRule<P>, Global>,
+    table: Table<Option<P>, View<P>, BoardSetup<P>, BoardRule<P>, Global>,
     shape: Shape,
     tasks: u32,
 }
@@ -85,7 +87,7 @@ impl<P: Piece> Board<P> {
         ensures seat { IfOk result (λ r. IsSeatOf r.0 r.1 × (view r.1 ≡ first_view r.0.plan r.0.pieces)) }
         ensures back { IfErr result (λ fault. pieces_back fault ≡ pieces.items) }
     {
-        let about = About {
+        let about = BoardSetup {
             shape,
             pieces: Snapshot::of(&pieces),
         };

@@ -9,7 +9,7 @@ ghost use Rattle.amr_phase.specs.Machine.{CoreOf};
 ghost use Rattle.amr_phase.specs.Laws.{IsReached};
 ghost use Rattle.amr_board.specs.declared.view.Deed.{Deed};
 ghost use Rattle.amr_board.specs.declared.view.View.{View};
-ghost use Rattle.amr_board.specs.declared.rule.About.{About};
+ghost use Rattle.amr_board.specs.declared.rule.BoardSetup.{BoardSetup};
 ghost use Rattle.amr_board.specs.Piece.{plan_of};
 ghost use Rattle.amr_board.specs.Core.{IsCore, Shows, event_of};
 ghost use Rattle.amr_board.specs.Rule.{Rule};
@@ -19,7 +19,7 @@ ghost use Rattle.amr_board.specs.Views.{current, HoldsNone, IsHolding, IsFresh, 
 ghost use Rattle.amr_board.specs.Views.{add_done, looked, keeps_half, other_half, joined, spent_view};
 
 use crate::piece::Piece;
-use crate::rule::{About, BoardRule};
+use crate::rule::{BoardRule, BoardSetup};
 use crate::view::View;
 use atomic_table::TableRule;
 
@@ -28,7 +28,7 @@ use atomic_table::TableRule;
 /// each enabled where it came. That state is a reached one, so each law of the machine over every list of events holds
 /// of it. It does nothing: it stands for its contract.
 pub fn running_board_is_the_core<P: Piece>()
-    ensures kept { (about : About P) (s : State (Option P) (View P)) → ⟦<BoardRule<P> as TableRule<Option<P>, View<P>, About<P>>>⟧.holds about s
+    ensures kept { (about : BoardSetup P) (s : State (Option P) (View P)) → ⟦<BoardRule<P> as TableRule<Option<P>, View<P>, BoardSetup<P>>>⟧.holds about s
         → Rule (plan_of P.puts P.adds about.shape.places about.shape.words about.pieces.value.items) about.pieces.value.items P.becomes s }
     ensures core { (plan : PlanOf) (pieces : List P) (s : State (Option P) (View P)) → Rule plan pieces P.becomes s → IsCore plan s }
     ensures reached { (plan : PlanOf) (pieces : List P) (s : State (Option P) (View P)) (workers : ℕ) → Rule plan pieces P.becomes s

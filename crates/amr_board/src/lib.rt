@@ -17,5 +17,5 @@ pub use laws::{
     running_board_is_the_core,
 };
 pub use piece::Piece;
-pub use rule::{About, BoardRule};
+pub use rule::{BoardRule, BoardSetup};
 pub use view::{Deed, Look, Progress, View};

@@ -13,7 +13,7 @@ use std::snapshot::Snapshot;
 
 /// What a table is told: its shape, and the pieces as they were handed in.
 #[derive(Drop)]
-pub struct About<P> {
+pub struct BoardSetup<P> {
     pub shape: Shape,
     pub pieces: Snapshot<Vec<P>>,
 }
@@ -23,7 +23,7 @@ pub struct BoardRule<P> {
     piece: PhantomData<P>,
 }
 
-impl<P: Piece> TableRule<Option<P>, View<P>, About<P>> for BoardRule<P> {
+impl<P: Piece> TableRule<Option<P>, View<P>, BoardSetup<P>> for BoardRule<P> {
     ghost holds = { λ about s. Rule
         (plan_of P.puts P.adds about.shape.places about.shape.words about.pieces.value.items) about.pieces.value.items P.becomes s };
 

@@ -8,7 +8,7 @@ use Rattle.amr_io.proofs.Shorter.{proper_after, proper_longer}
 use Rattle.amr_checkpoint.specs.declared.faults.KeepFault.{KeepFault}
 use Rattle.amr_checkpoint.specs.declared.faults.KeepFault.TheVariants as fault
 use Rattle.amr_checkpoint.specs.Contents.{Content}
-use Rattle.amr_checkpoint.specs.Kept.{AreFirstOf, ErrFailsBy, IsCutAtLast, IsSaid, Keeps, StandsBy}
+use Rattle.amr_checkpoint.specs.KeptCheckpoints.{AreFirstOf, ErrFailsBy, IsCutAtLast, IsSaid, Keeps, StandsBy}
 use Rattle.amr_checkpoint.specs.Marks.{acknowledgement, acknowledgements}
 use Rattle.amr_checkpoint.specs.Outside.{OutsideAt}
 use Rattle.amr_checkpoint.proofs.KeptStates.{acks_on}

@@ -16,7 +16,7 @@ use Rattle.amr_checkpoint.specs.declared.faults.KeepFault.TheVariants as fault
 use Rattle.amr_checkpoint.specs.Checkpoints.{StaysTold}
 use Rattle.amr_checkpoint.specs.Contents.{Content, At, Holds}
 use Rattle.amr_checkpoint.specs.Made.{MakesAll, ReadsWith}
-use Rattle.amr_checkpoint.specs.Kept.{ErrFailsBy, FailsBy, IsBegunBy, IsSaid, Keeps, KeptRun, StandsBy, StopsThrough, checkpoints_of}
+use Rattle.amr_checkpoint.specs.KeptCheckpoints.{ErrFailsBy, FailsBy, IsBegunBy, IsSaid, Keeps, KeptRun, StandsBy, StopsThrough, checkpoints_of}
 use Rattle.amr_checkpoint.specs.Laws.{AreRising}
 use Rattle.amr_checkpoint.specs.Marks.{acknowledgement, acknowledgements, is_mark}
 use Rattle.amr_checkpoint.specs.Times.{IsFrontOf, StopsAlong, Time, contents_of, last_of}

@@ -7,6 +7,6 @@ pub mod Checkpoints
 pub mod Reads
 pub mod Laws
 pub mod Outside
-pub mod Kept
+pub mod KeptCheckpoints
 pub mod Made
 pub mod Exchanges

@@ -6,7 +6,7 @@ ghost use Rattle.amr_def.specs.State.{State};
 ghost use Rattle.amr_payload.specs.Delta.{IsLater};
 ghost use Rattle.amr_store.specs.Stands.{problem_in, version_in};
 ghost use Rattle.amr_checkpoint.specs.Checkpoints.{MayPut, renewed_version};
-ghost use Rattle.amr_checkpoint.specs.Kept.{Keeps, checkpoints_of, fault_in, run_of};
+ghost use Rattle.amr_checkpoint.specs.KeptCheckpoints.{Keeps, checkpoints_of, fault_in, run_of};
 ghost use Rattle.amr_checkpoint.specs.Marks.{is_mark};
 ghost use Rattle.amr_checkpoint.specs.Outside.{outside_at};
 

@@ -18,7 +18,7 @@ ghost use Rattle.amr_checkpoint.specs.Checkpoints.{HoldsLatest, IsCopyWhere, IsF
 ghost use Rattle.amr_checkpoint.specs.Checkpoints.{IsStoreAfter, IsStoreAt, IsStoreFor, MayPut, StaysTold};
 ghost use Rattle.amr_checkpoint.specs.Checkpoints.{content_at_mesh};
 ghost use Rattle.amr_checkpoint.specs.Contents.{Content, Empty, Fresh, Holds, IsStorable, room_for};
-ghost use Rattle.amr_checkpoint.specs.Kept.{fault_in};
+ghost use Rattle.amr_checkpoint.specs.KeptCheckpoints.{fault_in};
 ghost use Rattle.amr_checkpoint.specs.Made.{ReadsWith, deltas_made, image_made, state_made, takes_record, version_made};
 
 use crate::contents::fault_of_call;

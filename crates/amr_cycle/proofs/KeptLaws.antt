@@ -18,12 +18,12 @@ use Rattle.amr_alike.proofs.SameBoxes.{some_in_boxes}
 use Rattle.amr_register.specs.declared.register.Register.{Register}
 use Rattle.amr_register.specs.Fields.{HasEdgesOf, SameCells}
 use Rattle.amr_register.proofs.SameCells.{edges_kept, register_kept, same_register}
-use Rattle.amr_cycle.specs.declared.kept.KeptBelow.{KeptBelow}
+use Rattle.amr_cycle.specs.declared.kept.KeptCoarser.{KeptCoarser}
 use Rattle.amr_cycle.specs.declared.kept.KeptLevel.{KeptLevel}
 use Rattle.amr_cycle.specs.Cycles.{SomeHasEntries}
-use Rattle.amr_advance.specs.declared.kept.KeptLayout.{KeptLayout}
-use Rattle.amr_advance.specs.Kept.{Forgets}
-use Rattle.amr_cycle.specs.Kept.{AreKept, IsBelow, IsKeptBelow, IsKeptBeside, IsKeptLevel, IsOnSameBoxes}
+use Rattle.amr_advance.specs.declared.kept_layout.KeptLayout.{KeptLayout}
+use Rattle.amr_advance.specs.KeptLayouts.{Forgets}
+use Rattle.amr_cycle.specs.KeptLevels.{AreKept, IsCoarserOf, IsKeptCoarser, IsKeptBeside, IsKeptLevel, IsOnSameBoxes}
 use Rattle.amr_cycle.proofs.Cycling.{same_level}
 
 -- the cells of a level are those of its patches' boxes
@@ -31,8 +31,8 @@ pub cells_alike : (a b : Held) (ps qs : List Patch) → (level_of a).masses ≡ 
 cells_alike a b ps qs of_a of_b same c = some_in_boxes (level_of a).masses ps (map box qs) of_a same c ∙ sym (some_in_boxes (level_of b).masses qs (map box qs) of_b refl c)
 
 -- brought up to date, what was kept is what both finer steps stand on
-pub renewed : (p : Problem) (l : ℕ) (b b' : KeptBelow) (level next : Held) → IsKeptBelow p l b → IsOnSameBoxes b level next
-    → (level_of b'.before).masses ≡ (level_of level).masses → (level_of b'.before).boxes ≡ (level_of b.before).boxes → b'.finer ≡ b.finer → map box (patches_of b'.before) ≡ map box (patches_of b.before) → SameCells b.register b'.register → IsBelow p l (level_of level) (level_of next) b'
+pub renewed : (p : Problem) (l : ℕ) (b b' : KeptCoarser) (level next : Held) → IsKeptCoarser p l b → IsOnSameBoxes b level next
+    → (level_of b'.before).masses ≡ (level_of level).masses → (level_of b'.before).boxes ≡ (level_of b.before).boxes → b'.finer ≡ b.finer → map box (patches_of b'.before) ≡ map box (patches_of b.before) → SameCells b.register b'.register → IsCoarserOf p l (level_of level) (level_of next) b'
 renewed p l b b' level next kept on masses boxes finer patches register = record {
   before = same_level (level_of b'.before) (level_of level) (boxes ∙ on.before.boxes) masses;
   finer = λ c. on.finer c ∙ ap (λ bs. in_boxes bs.items c) (sym finer);
@@ -114,8 +114,8 @@ one_more_forgot before ks k x o inside is forgets h = record { done = done; othe
 
 -- ---- what is left when both finer steps are made
 
-pub all_below_after : (p : Problem) (l : ℕ) (k fine : Level) (e : Cell → ℤ) (o : Option KeptBelow) (before : Held) (finer : Vec Extent) (r : Option Register) → level_of before ≡ k → ((c : Cell) → is_some (fine.masses c) ≡ in_boxes finer.items c)
-    → IfSome o (λ b. (b.before ≡ before) × (b.finer ≡ finer) × (Some b.register ≡ r)) → SomeHasEntries p l k.masses fine.masses e r → IfSome r (HasEdgesOf (map box (patches_of before))) → IfSome o (IsKeptBelow p l)
+pub all_below_after : (p : Problem) (l : ℕ) (k fine : Level) (e : Cell → ℤ) (o : Option KeptCoarser) (before : Held) (finer : Vec Extent) (r : Option Register) → level_of before ≡ k → ((c : Cell) → is_some (fine.masses c) ≡ in_boxes finer.items c)
+    → IfSome o (λ b. (b.before ≡ before) × (b.finer ≡ finer) × (Some b.register ≡ r)) → SomeHasEntries p l k.masses fine.masses e r → IfSome r (HasEdgesOf (map box (patches_of before))) → IfSome o (IsKeptCoarser p l)
 all_below_after p l k fine e None before finer r is cells same has edges = tt
 all_below_after p l k fine e (Some b) before finer r is cells same has edges = record {
   level = k;

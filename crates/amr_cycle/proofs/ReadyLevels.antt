@@ -5,11 +5,11 @@ use Rattle.std.specs.Option.{option_copied}
 use Rattle.amr_def.specs.declared.problem.Problem.{Problem}
 use Rattle.amr_def.specs.State.{Level}
 use Rattle.amr_ghost.specs.Frames.{old_masses}
-use Rattle.amr_advance.specs.declared.kept.KeptLayout.{KeptLayout}
-use Rattle.amr_advance.specs.Kept.{Forgets}
+use Rattle.amr_advance.specs.declared.kept_layout.KeptLayout.{KeptLayout}
+use Rattle.amr_advance.specs.KeptLayouts.{Forgets}
 use Rattle.amr_cycle.specs.declared.context.LevelContext.{LevelContext}
 use Rattle.amr_cycle.specs.declared.kept.KeptLevel.{KeptLevel}
-use Rattle.amr_cycle.specs.Kept.{AreKept}
+use Rattle.amr_cycle.specs.KeptLevels.{AreKept}
 use Rattle.amr_cycle.specs.Steps.{AreReady, IsKeptIn}
 use Rattle.amr_cycle.proofs.KeptLaws.{kept_again, kept_all, kept_first}
 

@@ -50,7 +50,7 @@ pub record IsCoarsePart (p : Problem) (l : ℕ) (k fine : Level) (old : Masses) 
 
 -- ---- a register
 
--- the register over level l, of masses m, below a finer level with masses `fine`, with these entries
+-- the register over level l, of masses m, where the next finer one has masses `fine`, with these entries
 pub record HasEntries (p : Problem) (l : ℕ) (m fine : Masses) (e : Cell → ℤ) (r : Register) : Type 0 where
   pub of_levels : IsRegisterOf p l m fine r
   pub entries : (c : Cell) → Contains (cells_in r) c → entry_in r c ≡ e c

@@ -1,3 +1,3 @@
 pub mod Cycles
-pub mod Kept
+pub mod KeptLevels
 pub mod Steps

@@ -15,13 +15,13 @@ use Rattle.amr_ghost.specs.Frames.{old_masses}
 use Rattle.amr_register.specs.declared.register.Register.{Register}
 use Rattle.amr_register.specs.Fields.{HasEdgesOf}
 use Rattle.amr_flows.specs.Subcycle.{edge_part, flows_of_step}
-use Rattle.amr_advance.specs.declared.regs.Regs.{Regs}
+use Rattle.amr_advance.specs.declared.registers.Regs.{Regs}
 use Rattle.amr_advance.specs.Registers.{BothChange, HasCoarser, gained}
 use Rattle.amr_cycle.specs.declared.context.LevelContext.{LevelContext}
 use Rattle.amr_cycle.specs.declared.kept.KeptLevel.{KeptLevel}
 use Rattle.amr_cycle.specs.declared.levels.Below.{Below}
 use Rattle.amr_cycle.specs.Cycles.{SomeHasEntries}
-use Rattle.amr_cycle.specs.Kept.{AreKept, IsKeptBeside}
+use Rattle.amr_cycle.specs.KeptLevels.{AreKept, IsKeptBeside}
 
 -- ---- in words of one level
 

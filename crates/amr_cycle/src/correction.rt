@@ -9,7 +9,7 @@ ghost use Rattle.amr_patch.specs.Levels.{level_of, patches_of};
 ghost use Rattle.amr_patch.specs.Patches.{box};
 ghost use Rattle.amr_register.specs.Entries.{with_entries};
 ghost use Rattle.amr_register.specs.Fields.{HasEdgesOf, IsPlaced};
-ghost use Rattle.amr_advance.specs.Kept.{IsKeptLayout, StaysKept};
+ghost use Rattle.amr_advance.specs.KeptLayouts.{IsKeptLayout, StaysKept};
 ghost use Rattle.amr_advance.specs.Registers.{cells_of};
 ghost use Rattle.amr_advance.specs.Crews.{MayRun};
 ghost use Rattle.amr_cycle.specs.Cycles.{entries_of};

@@ -8,9 +8,9 @@ ghost use Rattle.amr_def.specs.State.{Level as StateLevel};
 ghost use Rattle.amr_patch.specs.Levels.{level_of, patches_of};
 ghost use Rattle.amr_patch.specs.Patches.{box};
 ghost use Rattle.amr_register.specs.Fields.{SameCells, entry_in};
-ghost use Rattle.amr_advance.specs.Kept.{IsKeptLayout, StaysKept};
+ghost use Rattle.amr_advance.specs.KeptLayouts.{IsKeptLayout, StaysKept};
 ghost use Rattle.amr_advance.specs.Crews.{MayRun};
-ghost use Rattle.amr_cycle.specs.Kept.{AreKept, HasBoxesOf, IsBelow, IsKeptFor, IsOnSameBoxes};
+ghost use Rattle.amr_cycle.specs.KeptLevels.{AreKept, HasBoxesOf, IsCoarserOf, IsKeptFor, IsOnSameBoxes};
 ghost use Rattle.amr_cycle.specs.Steps.{IsKeptIn};
 
 use crate::context::LevelContext;
@@ -29,7 +29,7 @@ use std::thread::Threads;
 /// What a level keeps for both steps of the next finer one. There is a level on its own boxes, in which its masses
 /// before its step stand, the patch boxes of the finer level, and its flux register.
 #[derive(Drop)]
-pub(crate) struct KeptBelow {
+pub(crate) struct KeptCoarser {
     pub(crate) before: Level,
     pub(crate) finer: Vec<Bx>,
     pub(crate) register: Register,
@@ -39,7 +39,7 @@ pub(crate) struct KeptBelow {
 #[derive(Drop)]
 pub(crate) struct KeptLevel {
     pub(crate) layout: Option<KeptLayout>,
-    pub(crate) below: Option<KeptBelow>,
+    pub(crate) below: Option<KeptCoarser>,
 }
 
 /// What the steps of a run keep from one to the next: layouts, workspaces, flux registers, and room for the masses before a step.
@@ -93,7 +93,7 @@ fn is_on_boxes_of(kept: &Level, level: &Level) -> bool
 }
 
 /// Whether what is kept was made over the boxes of a level and of the next finer one.
-fn serves(kept: &KeptBelow, level: &Level, next: &Level) -> bool
+fn serves(kept: &KeptCoarser, level: &Level, next: &Level) -> bool
     ensures { IsTrue result → IsOnSameBoxes kept.now level.now next.now }
 {
     if !is_on_boxes_of(&kept.before, level) {
@@ -107,7 +107,7 @@ fn serves(kept: &KeptBelow, level: &Level, next: &Level) -> bool
 fn renew<R: Threads + Wait + Sync, G: Gate + Sync>(
     workers: &mut Workers<'_, R, G>,
     p: &Problem,
-    kept: &mut KeptBelow,
+    kept: &mut KeptCoarser,
     level: &mut Level,
     layout: &mut Option<KeptLayout>,
 )
@@ -149,18 +149,18 @@ fn make_below<R: Threads + Sync, G: Gate>(
     before: Level,
     level: &Level,
     next: &Level,
-) -> Result<KeptBelow, NoMemory>
+) -> Result<KeptCoarser, NoMemory>
     requires before { level_of before ≡ level_of level.now }
     requires patches { map box (patches_of before) ≡ map box (patches_of level.now) }
     requires number { given.now.level ≤ 3 }
     requires coarse { IsLevel given.now.problem.now given.now.level (level_of level.now) }
     requires fine { IsLevel given.now.problem.now (suc given.now.level) (level_of next.now) }
     requires nested { IsNestedLevel given.now.problem.now given.now.level (level_of level.now) (level_of next.now) }
-    ensures below { IfOk result (IsBelow given.now.problem.now given.now.level (level_of level.now) (level_of next.now)) }
+    ensures below { IfOk result (IsCoarserOf given.now.problem.now given.now.level (level_of level.now) (level_of next.now)) }
     ensures zero { IfOk result (λ b. (c : Cell) → entry_in b.register c ≡ pos 0) }
     ensures patches { IfOk result (λ b. map box (patches_of b.before) ≡ map box (patches_of level.now)) }
 {
-    Ok(KeptBelow {
+    Ok(KeptCoarser {
         before,
         finer: boxes_of(given.alloc, next.patches())?,
         register: Register::make_in_threads(
@@ -184,7 +184,7 @@ pub(crate) fn below_for<R: Threads + Wait + Sync, G: Gate + Sync>(
     level: &mut Level,
     next: &Level,
     own: &mut KeptLevel,
-) -> Result<KeptBelow, NoMemory>
+) -> Result<KeptCoarser, NoMemory>
     requires number { given.now.level ≤ 3 }
     requires coarse { IsLevel given.now.problem.now given.now.level (level_of level.old) }
     requires fine { IsLevel given.now.problem.now (suc given.now.level) (level_of next.now) }
@@ -192,7 +192,7 @@ pub(crate) fn below_for<R: Threads + Wait + Sync, G: Gate + Sync>(
     requires crew { (tasks : ℕ) → MayRun G.admits given.now.problem.now tasks workers.old }
     requires kept { IsKeptIn given.now (level_of level.old) own.old }
     ensures workers { workers.new ≡ workers.old }
-    ensures below { IfOk result (IsBelow given.now.problem.now given.now.level (level_of level.old) (level_of next.now)) }
+    ensures below { IfOk result (IsCoarserOf given.now.problem.now given.now.level (level_of level.old) (level_of next.now)) }
     ensures zero { IfOk result (λ b. (c : Cell) → entry_in b.register c ≡ pos 0) }
     ensures patches { IfOk result (λ b. map box (patches_of b.before) ≡ map box (patches_of level.old)) }
     ensures level { level_of level.new ≡ level_of level.old }

@@ -18,7 +18,7 @@ ghost use Rattle.amr_cycle.specs.Steps.{flux_in, own_inflow, own_outflow};
 
 use crate::context::LevelContext;
 use crate::correction::correct;
-use crate::kept::{KeptBelow, KeptLevel, below_for};
+use crate::kept::{KeptCoarser, KeptLevel, below_for};
 use amr_advance::{Regs, Stale, Workers, advance_kept, forget};
 use amr_box::Bx;
 use amr_causes::NoMemory;
@@ -102,7 +102,7 @@ fn step_coarse<R: Threads + Wait + Sync, G: Gate + Sync>(
     ensures coarser { OnOk result (Gains given.now (level_of level.old) regs.old.coarser regs.new.coarser) }
     ensures finer { OnOk result (regs.new.finer ≡ None) }
 {
-    let KeptBelow {
+    let KeptCoarser {
         before,
         finer,
         register,
@@ -132,7 +132,7 @@ fn step_coarse<R: Threads + Wait + Sync, G: Gate + Sync>(
 }
 
 /// What is kept of it when both steps are made.
-fn kept_of<R: Wait>(rt: &R, below: Below) -> Option<KeptBelow>
+fn kept_of<R: Wait>(rt: &R, below: Below) -> Option<KeptCoarser>
     ensures { IfSome result (λ b. (b.before ≡ arc_value below.before) × (b.finer ≡ below.finer) × (Some b.register ≡ below.regs.coarser)) }
 {
     let Below {
@@ -141,7 +141,7 @@ fn kept_of<R: Wait>(rt: &R, below: Below) -> Option<KeptBelow>
         regs,
     } = below;
     let register = regs.coarser?;
-    Some(KeptBelow {
+    Some(KeptCoarser {
         before: sole(rt, before),
         finer,
         register,

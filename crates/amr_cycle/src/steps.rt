@@ -10,7 +10,7 @@ ghost use Rattle.amr_patch.specs.Levels.{level_of};
 ghost use Rattle.amr_patch.specs.Meshes.{is_spent, levels_of, state_of};
 ghost use Rattle.amr_flows.specs.Subcycle.{flows_of_step};
 ghost use Rattle.amr_advance.specs.Crews.{MayRun};
-ghost use Rattle.amr_cycle.specs.Kept.{AreKept, IsKeptFor};
+ghost use Rattle.amr_cycle.specs.KeptLevels.{AreKept, IsKeptFor};
 ghost use Rattle.amr_cycle.specs.Cycles.{AreCoarsenableAbove, HasStepToCome, patch_boxes};
 
 use crate::context::LevelContext;

@@ -15,7 +15,7 @@ use Rattle.amr_laws.proofs.FlockRegrid.{length-regrid_all, regrid_all-flock, reg
 use Rattle.amr_laws.proofs.FlockRuns.{some_states}
 use Rattle.amr_patch.specs.declared.meshes.Mesh.{Mesh}
 use Rattle.amr_patch.specs.Meshes.{is_spent, state_of}
-use Rattle.amr_cycle.specs.Kept.{IsKeptFor}
+use Rattle.amr_cycle.specs.KeptLevels.{IsKeptFor}
 use Rattle.amr_drive.specs.declared.lanes.Lane.{Lane}
 use Rattle.amr_drive.specs.Flocks.{AreMeshesOf, IsInPatchesOf, problems_of}
 use Rattle.amr_drive.specs.Lanes.{AtEach, HasForgotten, HaveGone, IsNewLane, MayGo, MayStep, StandsAt, stepped_to}

@@ -17,7 +17,7 @@ use Rattle.amr_flux.proofs.room.Room.TheSendSync.{the_send as room_send}
 use Rattle.amr_ghost.proofs.messages.Message.TheSendSync.{the_send as message_send}
 use Rattle.amr_ghost.proofs.outer.OuterGhosts.TheSendSync.{the_send as outer_send}
 use Rattle.amr_ghost.proofs.parts.FrameCopy.TheSendSync.{the_send as copy_send}
-use Rattle.amr_layout.proofs.alone.LevelFlows.TheSendSync.{the_send as flows_send}
+use Rattle.amr_layout.proofs.level_flows.LevelFlows.TheSendSync.{the_send as flows_send}
 use Rattle.amr_layout.proofs.PatchLayout.TheSendSync.{the_send as layout_send}
 use Rattle.amr_lots.proofs.lot.Correction.TheSendSync.{the_send as correction_send}
 use Rattle.amr_lots.specs.contracts.lot.Workspace.{the_row as workspace_row, the_type as workspace_type}

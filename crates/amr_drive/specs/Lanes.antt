@@ -8,7 +8,7 @@ use Rattle.amr_def.specs.Species.{first_state, of_species, regrid_all, step_of}
 use Rattle.amr_patch.specs.declared.meshes.Mesh.{Mesh}
 use Rattle.amr_patch.specs.Meshes.{is_spent, state_of}
 use Rattle.amr_cycle.specs.declared.kept.Kept.{Kept}
-use Rattle.amr_cycle.specs.Kept.{IsKeptFor}
+use Rattle.amr_cycle.specs.KeptLevels.{IsKeptFor}
 use Rattle.amr_drive.specs.declared.lanes.Lane.{Lane}
 use Rattle.amr_drive.specs.Flocks.{AreMeshesOf, IsInPatchesOf}
 

@@ -9,7 +9,7 @@ ghost use Rattle.amr_patch.specs.Meshes.{is_spent, levels_of, state_of};
 ghost use Rattle.amr_start.specs.PatchBoxes.{IsChopped};
 ghost use Rattle.amr_advance.specs.Crews.{MayRun};
 ghost use Rattle.amr_cycle.specs.Cycles.{AreCoarsenableAbove};
-ghost use Rattle.amr_cycle.specs.Kept.{IsKeptFor};
+ghost use Rattle.amr_cycle.specs.KeptLevels.{IsKeptFor};
 ghost use Rattle.amr_drive.specs.Drives.{HasDriven, MayDrive};
 ghost use Rattle.amr_drive.specs.States.{states_after};
 

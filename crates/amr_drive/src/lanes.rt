@@ -4,7 +4,7 @@ ghost use Rattle.std.specs.Prelude.{◌≡◌, ℕ, ◌<◌, ◌≤◌, true, Li
 ghost use Rattle.std.specs.List.{All};
 ghost use Rattle.amr_def.specs.declared.problem.Problem.{Problem};
 ghost use Rattle.amr_def.specs.State.{Level};
-ghost use Rattle.amr_cycle.specs.Kept.{IsKeptFor};
+ghost use Rattle.amr_cycle.specs.KeptLevels.{IsKeptFor};
 ghost use Rattle.amr_drive.specs.declared.lanes.Lane.{Lane};
 ghost use Rattle.amr_drive.specs.Lanes.{HasForgotten, HaveChanged, IsNewLane};
 

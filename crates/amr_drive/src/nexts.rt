@@ -9,7 +9,7 @@ ghost use Rattle.amr_patch.specs.Meshes.{is_spent, levels_of, state_of};
 ghost use Rattle.amr_start.specs.PatchBoxes.{IsChopped};
 ghost use Rattle.amr_advance.specs.Crews.{MayRun};
 ghost use Rattle.amr_cycle.specs.Cycles.{AreCoarsenableAbove};
-ghost use Rattle.amr_cycle.specs.Kept.{IsKeptFor};
+ghost use Rattle.amr_cycle.specs.KeptLevels.{IsKeptFor};
 
 use amr_advance::Workers;
 use amr_causes::NoMemory;

@@ -17,7 +17,7 @@ use Rattle.amr_register.specs.RegisterCells.{is_coarse_fine}
 abbrev pub level_total : Around → (Face → ℕ) → ℕ → ℕ
 level_total s size word = total (λ (q : Patch). word_total size word (flows_of s (box q))) s.patches
 
--- the flows through the children of the coarse-fine edges of level l below a finer level with masses `fine`, and 0 through all
+-- the flows through the children of the coarse-fine edges of level l, where the next finer one has masses `fine`, and 0 through all
 -- other faces (Berger and Colella)
 unfoldable pub child_flows : Problem → ℕ → Masses → Fluxes → Fluxes
 child_flows p l fine e f = cond (is_coarse_fine (domain p l) fine f) (through_children e f.axis f.x f.y) (pos 0)

@@ -16,8 +16,8 @@ use Rattle.amr_patch.specs.Patches.{box, flux_in}
 use Rattle.amr_patch.proofs.Edges.{at_high, x_edge, y_edge}
 use Rattle.amr_patch.proofs.Rows.{sides}
 use Rattle.amr_faces.specs.Faces.{flux_beside}
-use Rattle.amr_flux.specs.declared.fluxes.Sides.{Sides}
-use Rattle.amr_flux.specs.Sides.{east, includes, north, side_along, side_of, south, west}
+use Rattle.amr_flux.specs.declared.fluxes.PatchSides.{PatchSides}
+use Rattle.amr_flux.specs.PatchSides.{east, includes, north, side_along, side_of, south, west}
 use Rattle.amr_flux.specs.Tables.{Stands, x_flux, y_flux}
 use Rattle.amr_faces.proofs.EdgeFaces.{edge_face}
 use Rattle.amr_faces.proofs.Places.{IsFaceAt, IsXFace, IsYFace, offset, x_face_at, y_face_at}
@@ -52,7 +52,7 @@ module _ (p : Problem) (l : ℕ) (q new : Patch) (column row : ℕ) (s : Stands 
       y_high_here new x y i j (there x y i j f.at) (e ∙ ap (λ (b : Extent). b.hi.y +ℤ pos 1) (sym same)) ∙ is ∙ ap (λ n. y_flux p l column (width q.bx) q.data.value.values.items i n) (sym last) ∙ y_beside p l q column row s x y i j f.at f.column
 
 -- the lists of a patch's edges after a sweep: those of the sides that are wanted have the fluxes by the values, the others are as before
-pub record AreSwept (p : Problem) (l : ℕ) (q : Patch) (column row : ℕ) (sides : Sides) (west_list east_list south_list north_list : List ℤ) : Type 0 where
+pub record AreSwept (p : Problem) (l : ℕ) (q : Patch) (column row : ℕ) (sides : PatchSides) (west_list east_list south_list north_list : List ℤ) : Type 0 where
   pub x_low : sides.x_low ≡ true → (j : ℕ) → j < height q.bx → slice_index_or west_list j (pos 0) ≡ x_flux p l row (width q.bx) q.data.value.values.items 0 j
   pub x_high : sides.x_high ≡ true → (j : ℕ) → j < height q.bx → slice_index_or east_list j (pos 0) ≡ x_flux p l row (width q.bx) q.data.value.values.items (width q.bx) j
   pub y_low : sides.y_low ≡ true → (i : ℕ) → i < width q.bx → slice_index_or south_list i (pos 0) ≡ y_flux p l column (width q.bx) q.data.value.values.items i 0
@@ -62,7 +62,7 @@ pub record AreSwept (p : Problem) (l : ℕ) (q : Patch) (column row : ℕ) (side
   pub y_low_stays : sides.y_low ≡ false → south_list ≡ q.data.value.y_low.items
   pub y_high_stays : sides.y_high ≡ false → north_list ≡ q.data.value.y_high.items
 
-pub swept_lists : (p : Problem) (l : ℕ) (q : Patch) (column row : ℕ) (wanted : Sides) {w w' e e' s s' n n' : List ℤ} → w' ≡ w → e' ≡ e → s' ≡ s → n' ≡ n → AreSwept p l q column row wanted w e s n → AreSwept p l q column row wanted w' e' s' n'
+pub swept_lists : (p : Problem) (l : ℕ) (q : Patch) (column row : ℕ) (wanted : PatchSides) {w w' e e' s s' n n' : List ℤ} → w' ≡ w → e' ≡ e → s' ≡ s → n' ≡ n → AreSwept p l q column row wanted w e s n → AreSwept p l q column row wanted w' e' s' n'
 swept_lists p l q column row wanted is_w is_e is_s is_n lists = record {
   x_low = λ has j h. ap (λ es. slice_index_or es j (pos 0)) is_w ∙ lists.x_low has j h;
   x_high = λ has j h. ap (λ es. slice_index_or es j (pos 0)) is_e ∙ lists.x_high has j h;
@@ -74,7 +74,7 @@ swept_lists p l q column row wanted is_w is_e is_s is_n lists = record {
   y_high_stays = λ unwanted. is_n ∙ lists.y_high_stays unwanted;
 }
 
-module _ (p : Problem) (l : ℕ) (q new : Patch) (column row : ℕ) (s : Stands p l q.bx column row) (same : new.bx ≡ q.bx) (wanted : Sides)
+module _ (p : Problem) (l : ℕ) (q new : Patch) (column row : ℕ) (s : Stands p l q.bx column row) (same : new.bx ≡ q.bx) (wanted : PatchSides)
     (lists : AreSwept p l q column row wanted new.data.value.x_low.items new.data.value.x_high.items new.data.value.y_low.items new.data.value.y_high.items) where
   -- faces at the low side (at is true) or at the high side
   x_swept : (x y : ℤ) → is_edge_face q.bx (face X x y) ≡ true → (at : Bool) → int_eq x q.bx.lo.x ≡ at → includes wanted (cond at west east) ≡ true → flux_in new (face X x y) ≡ flux_beside p l q (face X x y)

@@ -4,4 +4,4 @@ pub mod Paces
 pub mod Rooms
 pub mod Rows
 pub mod Tables
-pub mod Sides
+pub mod PatchSides

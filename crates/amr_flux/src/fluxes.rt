@@ -8,7 +8,7 @@ ghost use Rattle.amr_patch.specs.Places.{is_edge_face};
 ghost use Rattle.amr_patch.specs.Patches.{SameMarks, SameValues, box, flux_in, value_in};
 ghost use Rattle.amr_faces.specs.Faces.{IsInDomain, flux_beside, in_reach};
 ghost use Rattle.amr_flux.specs.Rooms.{widest};
-ghost use Rattle.amr_flux.specs.Sides.{Side, includes, side_of};
+ghost use Rattle.amr_flux.specs.PatchSides.{Side, includes, side_of};
 
 use crate::room::Room;
 use crate::shape::shape_of;
@@ -18,21 +18,21 @@ use amr_box::{Axis, Bx, Face};
 use amr_def::Problem;
 use amr_patch::Patch;
 
-/// Sides of a patch: those of the low and the high x faces on its edges, and of the low and the high y faces.
+/// PatchSides of a patch: those of the low and the high x faces on its edges, and of the low and the high y faces.
 #[derive(Clone, Copy, PartialEq, Eq, Debug)]
-pub struct Sides {
+pub struct PatchSides {
     pub x_low: bool,
     pub x_high: bool,
     pub y_low: bool,
     pub y_high: bool,
 }
 
-impl Sides {
+impl PatchSides {
     /// None.
-    pub const fn none() -> Sides
+    pub const fn none() -> PatchSides
         ensures { (x : Side) → includes result x ≡ false }
     {
-        Sides {
+        PatchSides {
             x_low: false,
             x_high: false,
             y_low: false,
@@ -48,7 +48,7 @@ impl Sides {
     }
 
     /// These and the one that a face on the edges of a box lies on.
-    pub fn with(self, b: &Bx, f: Face) -> Sides
+    pub fn with(self, b: &Bx, f: Face) -> PatchSides
         ensures there { includes result (side_of b.now f) ≡ true }
         ensures others { (x : Side) → x ≢ side_of b.now f → includes result x ≡ includes self x }
     {
@@ -65,7 +65,7 @@ impl Sides {
 
 /// Works out the fluxes through the faces on some sides of a patch of level `l`. They follow from its masses and the frame beside it
 /// (donor cell; Berger and Colella 1989). The faces on its other sides keep what they have.
-pub fn sweep(p: &Problem, l: u32, patch: &mut Patch, sides: Sides, room: &mut Room)
+pub fn sweep(p: &Problem, l: u32, patch: &mut Patch, sides: PatchSides, room: &mut Room)
     requires level { l ≤ 4 }
     requires inside { IsInDomain (domain p.now l) (box patch.old) }
     requires small { (c : Cell) → IsTrue (in_reach (box patch.old) c) → value_in patch.old c < 2 ^ 31 }

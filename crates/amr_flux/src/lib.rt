@@ -21,6 +21,6 @@ mod update_rows;
 mod x_faces;
 mod y_faces;
 
-pub use crate::fluxes::{Sides, sweep};
+pub use crate::fluxes::{PatchSides, sweep};
 pub use crate::masses::{update_alone, update_by};
 pub use crate::room::Room;

@@ -10,7 +10,7 @@ use Rattle.amr_ghost.specs.GhostCells.{AreGiven}
 use Rattle.amr_ghost.specs.Messages.{mass_count}
 use Rattle.amr_ghost.specs.Outer.{value_count}
 use Rattle.amr_ghost.specs.declared.sides.Strip.{Strip}
-use Rattle.amr_ghost.specs.declared.sources.Span.{Span}
+use Rattle.amr_ghost.specs.declared.sources.GhostSpan.{GhostSpan}
 use Rattle.amr_ghost.specs.declared.parts.FrameCopy.{FrameCopy}
 use Rattle.amr_ghost.proofs.GhostStrips.{same_given}
 
@@ -24,7 +24,7 @@ pub record IsCount {A : Type 0} (size : A → ℕ) (count : List A → ℕ) : Ty
 pub copies_counted : IsCount (λ (c : FrameCopy). c.strip.count) mass_count
 copies_counted = record { none = refl; more = λ c cs. refl }
 
-pub spans_counted : IsCount (λ (s : Span). s.strip.count) value_count
+pub spans_counted : IsCount (λ (s : GhostSpan). s.strip.count) value_count
 spans_counted = record { none = refl; more = λ s ss. refl }
 
 module _ {A : Type 0} {size : A → ℕ} {count : List A → ℕ} (is : IsCount size count) where

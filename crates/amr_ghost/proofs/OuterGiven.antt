@@ -10,7 +10,7 @@ use Rattle.amr_ghost.specs.GhostCells.{AreGiven, KeepsCells, KeepsGhosts}
 use Rattle.amr_ghost.specs.Messages.{HasCopy, HasMadeCopies, IsCopyFor, IsFrameCopy, IsReceived}
 use Rattle.amr_ghost.specs.Outer.{AreOuterFor, AreOuterValuesFor, HasOuter, HasOuterGiven, IsSpanBeside, value_count}
 use Rattle.amr_ghost.specs.declared.outer.OuterGhosts.{OuterGhosts}
-use Rattle.amr_ghost.specs.declared.sources.Span.{Span}
+use Rattle.amr_ghost.specs.declared.sources.GhostSpan.{GhostSpan}
 use Rattle.amr_ghost.specs.declared.parts.FrameCopy.{FrameCopy}
 use Rattle.amr_ghost.proofs.Copies.{still_copied, still_received, still_set, still_taken}
 use Rattle.amr_ghost.proofs.Counts.{before_part, end_part, in_part, part_given, part_length, spans_counted}
@@ -20,11 +20,11 @@ use Rattle.amr_ghost.proofs.Zips.{keeps_trans, zip_ghosts, zip_trans}
 -- ---- values
 
 module _ (V : Cell → ℕ) (M : Cell → Bool) where
-  pub outer_part : (ss : List Span) (k : ℕ) (d : Span) (vs : List ℕ) (done : ℕ) → k < length ss → done ≡ value_count (take k ss) → AreOuterValuesFor V M ss vs → AreGiven V M (get_or ss k d).strip.axis (get_or ss k d).strip.from (get_or ss k d).strip.count (λ j. slice_index (slice_range vs done (done + (get_or ss k d).strip.count)) j) false
-  outer_part = part_given V M false (λ (s : Span). s.strip) spans_counted (AreOuterValuesFor V M) (λ s ss vs h. h)
+  pub outer_part : (ss : List GhostSpan) (k : ℕ) (d : GhostSpan) (vs : List ℕ) (done : ℕ) → k < length ss → done ≡ value_count (take k ss) → AreOuterValuesFor V M ss vs → AreGiven V M (get_or ss k d).strip.axis (get_or ss k d).strip.from (get_or ss k d).strip.count (λ j. slice_index (slice_range vs done (done + (get_or ss k d).strip.count)) j) false
+  outer_part = part_given V M false (λ (s : GhostSpan). s.strip) spans_counted (AreOuterValuesFor V M) (λ s ss vs h. h)
 
   -- one more span's values are written after those of the spans so far, which stay
-  found_more : (ss : List Span) (s : Span) (vs ws : List ℕ) → AreOuterValuesFor V M ss vs → ((j : ℕ) → j < value_count ss → slice_index ws j ≡ slice_index vs j) → AreGiven V M s.strip.axis s.strip.from s.strip.count (λ j. slice_index ws (value_count ss + j)) false → AreOuterValuesFor V M (ss ++ s ∷ []) ws
+  found_more : (ss : List GhostSpan) (s : GhostSpan) (vs ws : List ℕ) → AreOuterValuesFor V M ss vs → ((j : ℕ) → j < value_count ss → slice_index ws j ≡ slice_index vs j) → AreGiven V M s.strip.axis s.strip.from s.strip.count (λ j. slice_index ws (value_count ss + j)) false → AreOuterValuesFor V M (ss ++ s ∷ []) ws
   found_more [] s vs ws h same one = (same_given V M s.strip.axis s.strip.from s.strip.count (λ j. slice_index ws (0 + j)) (λ j. slice_index ws j) false (λ j t. ap (λ n. slice_index ws n) (omega arith)) one, tt)
   found_more (r ∷ ss) s vs ws h same one = (
     same_given V M r.strip.axis r.strip.from r.strip.count (λ j. slice_index vs j) (λ j. slice_index ws j) false (λ j t. sym (same j (omega (arith, t)))) h.0,
@@ -35,15 +35,15 @@ module _ (V : Cell → ℕ) (M : Cell → Bool) where
   )
 
   -- the values of span k are written where they stand
-  pub found_next : (ss : List Span) (k : ℕ) (d : Span) (vs ws : List ℕ) (done : ℕ) → k < length ss → done ≡ value_count (take k ss) → length vs ≡ value_count ss → length ws ≡ length (slice_range vs done (done + (get_or ss k d).strip.count)) → AreOuterValuesFor V M (take k ss) vs → AreGiven V M (get_or ss k d).strip.axis (get_or ss k d).strip.from (get_or ss k d).strip.count (λ j. slice_index ws j) false → AreOuterValuesFor V M (take (k + 1) ss) (put_mid done (done + (get_or ss k d).strip.count - done) vs ws)
+  pub found_next : (ss : List GhostSpan) (k : ℕ) (d : GhostSpan) (vs ws : List ℕ) (done : ℕ) → k < length ss → done ≡ value_count (take k ss) → length vs ≡ value_count ss → length ws ≡ length (slice_range vs done (done + (get_or ss k d).strip.count)) → AreOuterValuesFor V M (take k ss) vs → AreGiven V M (get_or ss k d).strip.axis (get_or ss k d).strip.from (get_or ss k d).strip.count (λ j. slice_index ws j) false → AreOuterValuesFor V M (take (k + 1) ss) (put_mid done (done + (get_or ss k d).strip.count - done) vs ws)
   found_next ss k d vs ws done lt before all same h one =
-      subst (λ (us : List Span). AreOuterValuesFor V M us (put_mid done n vs ws)) (sym (take_more ss k d lt))
+      subst (λ (us : List GhostSpan). AreOuterValuesFor V M us (put_mid done n vs ws)) (sym (take_more ss k d lt))
       (found_more (take k ss) u vs (put_mid done n vs ws) h
       (λ j t. before_part vs ws done n within j (omega (arith, t, before)))
       (same_given V M u.strip.axis u.strip.from u.strip.count (λ j. slice_index ws j) (λ j. slice_index (put_mid done n vs ws) (value_count (take k ss) + j)) false
       (λ j t. sym (ap (λ m. slice_index (put_mid done n vs ws) (m + j)) (sym before) ∙ in_part vs ws done n within j (omega (arith, t, same, part)))) one))
     where
-      u : Span
+      u : GhostSpan
       u = get_or ss k d
 
       n : ℕ
@@ -58,34 +58,34 @@ module _ (V : Cell → ℕ) (M : Cell → Bool) where
 -- ---- patches
 
 -- a span's ghost cells are as those of a copy
-abbrev as_copy : Span → FrameCopy
+abbrev as_copy : GhostSpan → FrameCopy
 as_copy s = record { patch = s.patch; strip = s.strip; source = 0; from = s.strip.from }
 
-as_received : (rs : List Patch) (s : Span) → IsSpanBeside rs s → IsReceived rs (as_copy s)
+as_received : (rs : List Patch) (s : GhostSpan) → IsSpanBeside rs s → IsReceived rs (as_copy s)
 as_received rs s h = record { there = h.there; some = h.some; small = h.small; room = h.room; ghosts = h.ghosts; beside = h.beside }
 
 -- spans beside patches that keep their cells
 module _ (ps qs : List Patch) (kept : AllZip KeepsCells ps qs) where
-  pub still_beside : (s : Span) → IsSpanBeside ps s → IsSpanBeside qs s
+  pub still_beside : (s : GhostSpan) → IsSpanBeside ps s → IsSpanBeside qs s
   still_beside s h =
       let is = still_received ps qs kept (as_copy s) (as_received ps s h) in
       record { there = is.there; some = is.some; small = is.small; room = is.room; ghosts = is.ghosts; beside = is.beside }
 
   -- and what was given to them stays, where ghost cells that have their values keep them
   module _ (rs : List Patch) (V : Cell → ℕ) (M : Cell → Bool) (more : AllZip (KeepsGhosts V M) qs rs) where
-    still_outer : (s : Span) → IsSpanBeside ps s → HasOuter V M qs s → HasOuter V M rs s
+    still_outer : (s : GhostSpan) → IsSpanBeside ps s → HasOuter V M qs s → HasOuter V M rs s
     still_outer s h before = still_set ps qs kept rs V M more (as_copy s) (as_received ps s h) before
 
-    pub all_still_outer : (ss : List Span) → All (IsSpanBeside ps) ss → All (HasOuter V M qs) ss → All (HasOuter V M rs) ss
+    pub all_still_outer : (ss : List GhostSpan) → All (IsSpanBeside ps) ss → All (HasOuter V M qs) ss → All (HasOuter V M rs) ss
     all_still_outer ss all before = λ j d lt. still_outer (get_or ss j d) (all j d lt) (before j d lt)
 
     -- one more span is given its values
-    pub outer_set : (ss : List Span) (k : ℕ) (d : Span) → k < length ss → All (IsSpanBeside ps) ss → ((j : ℕ) (s : Span) → j < k → HasOuter V M qs (get_or ss j s)) → HasOuter V M rs (get_or ss k d) → (j : ℕ) (s : Span) → j < k + 1 → HasOuter V M rs (get_or ss j s)
+    pub outer_set : (ss : List GhostSpan) (k : ℕ) (d : GhostSpan) → k < length ss → All (IsSpanBeside ps) ss → ((j : ℕ) (s : GhostSpan) → j < k → HasOuter V M qs (get_or ss j s)) → HasOuter V M rs (get_or ss k d) → (j : ℕ) (s : GhostSpan) → j < k + 1 → HasOuter V M rs (get_or ss j s)
     outer_set ss k d there all before one j s lt = below_more (λ m. HasOuter V M rs (get_or ss m s)) k (λ m below. still_outer (get_or ss m s) (all m s (omega (arith, below, there))) (before m s below)) (subst (HasOuter V M rs) (get_or_default ss k d s there) one) j lt
 
 -- ---- outer ghost cells are given their values, and then copies within the patches are made
 
-pub given_in : (x : OuterGhosts) (ss : List Span) (vs : List ℕ) (ps qs : List Patch) → ss ≡ x.spans.items → vs ≡ x.values.items → HasOuterGiven ss vs ps qs → HasOuterGiven x.spans.items x.values.items ps qs
+pub given_in : (x : OuterGhosts) (ss : List GhostSpan) (vs : List ℕ) (ps qs : List Patch) → ss ≡ x.spans.items → vs ≡ x.values.items → HasOuterGiven ss vs ps qs → HasOuterGiven x.spans.items x.values.items ps qs
 given_in x ss vs ps qs spans values h = rw (← spans, ← values) h
 
 -- what copies ask of the patches stays

@@ -27,7 +27,7 @@ use Rattle.amr_ghost.specs.Messages.{AreMassesFor, AreMessagesTo, ArePacked, Has
 use Rattle.amr_ghost.specs.declared.sides.Strip.{Strip}
 use Rattle.amr_ghost.specs.declared.sources.Source.{Source}
 use Rattle.amr_ghost.specs.declared.sources.Source.TheVariants.{Beside, Coarser, Outside}
-use Rattle.amr_ghost.specs.declared.sources.Span.{Span}
+use Rattle.amr_ghost.specs.declared.sources.GhostSpan.{GhostSpan}
 use Rattle.amr_ghost.specs.declared.plan.FramePlan.{FramePlan}
 use Rattle.amr_ghost.specs.declared.parts.FrameCopy.{FrameCopy}
 use Rattle.amr_ghost.specs.declared.parts.FrameParts.{FrameParts}
@@ -40,7 +40,7 @@ use Rattle.amr_ghost.proofs.Zips.{still_mass, zip_box}
 
 -- ---- the spans of a plan
 
-span_in : (d : Domain) (ps : List Patch) (plan : FramePlan) → PlansFrames d ps plan → (s : Span) → Any (λ x. x ≡ s) plan.spans.items → IsSpan d ps s
+span_in : (d : Domain) (ps : List Patch) (plan : FramePlan) → PlansFrames d ps plan → (s : GhostSpan) → Any (λ x. x ≡ s) plan.spans.items → IsSpan d ps s
 span_in d ps plan planned s a = subst (IsSpan d ps) (a.3 ∙ a.4) (planned.spans a.0 a.1 a.2)
 
 -- the runs have all patches that a plan tells of
@@ -51,7 +51,7 @@ source_small d ps s (Coarser h) n is few = tt
 
 pub plan_small : (d : Domain) (ps : List Patch) (plan : FramePlan) (width runs : ℕ) → PlansFrames d ps plan → length ps ≤ runs * width → All (IsSpanBelow (runs * width)) plan.spans.items
 plan_small d ps plan width runs planned few = λ k s lt.
-    let span : Span = get_or plan.spans.items k s in
+    let span : GhostSpan = get_or plan.spans.items k s in
     let is : IsSpan d ps span = planned.spans k s lt in
     let there : span.patch < length ps = is.there in
     let low : span.patch < runs * width = omega (arith, there, few) in
@@ -74,13 +74,13 @@ no_masses d ps s (Beside j h) lie some inside is other k t = absurd other
 no_masses d ps s (Coarser h) lie some inside is other k t = ap (masses_in ps) (sym (home_is d s.axis s.from h s.count is.home some inside k t)) ∙ gap_none d s.axis s.from h s.count is.home some inside ps s.count is.gap k t
 
 module _ (d : Domain) (ps : List Patch) (plan : FramePlan) (width runs : ℕ) (parts : FrameParts) (planned : PlansFrames d ps plan) (parted : IsParted plan width runs parts) where
-  part_span : (t : ℕ) (v : Vec Span) (k : ℕ) (s : Span) → t < runs → k < length (get_or parts.outer.items t v).items → IsSpan d ps (level_span (t * width) (get_or (get_or parts.outer.items t v).items k s))
+  part_span : (t : ℕ) (v : Vec GhostSpan) (k : ℕ) (s : GhostSpan) → t < runs → k < length (get_or parts.outer.items t v).items → IsSpan d ps (level_span (t * width) (get_or (get_or parts.outer.items t v).items k s))
   part_span t v k s below lt = span_in d ps plan planned (level_span (t * width) (get_or (get_or parts.outer.items t v).items k s)) (parted.outer t v below k s lt).2
 
   -- what find_values asks of the spans of a run
-  pub outer_spans : (t : ℕ) (v : Vec Span) → t < runs → All (IsOuterSpan d) (get_or parts.outer.items t v).items
+  pub outer_spans : (t : ℕ) (v : Vec GhostSpan) → t < runs → All (IsOuterSpan d) (get_or parts.outer.items t v).items
   outer_spans t v below = λ k s lt.
-      let x : Span = get_or (get_or parts.outer.items t v).items k s in
+      let x : GhostSpan = get_or (get_or parts.outer.items t v).items k s in
       let is : IsSpan d ps (level_span (t * width) x) = part_span t v k s below lt in
       record {
         some = is.some;
@@ -90,14 +90,14 @@ module _ (d : Domain) (ps : List Patch) (plan : FramePlan) (width runs : ℕ) (p
       }
 
   -- and that the values which it finds are those of the level's cells
-  pub outer_massless : AreInDomain d ps → (t : ℕ) (v : Vec Span) → t < runs → All (HasNoMass d (masses_in ps)) (get_or parts.outer.items t v).items
+  pub outer_massless : AreInDomain d ps → (t : ℕ) (v : Vec GhostSpan) → t < runs → All (HasNoMass d (masses_in ps)) (get_or parts.outer.items t v).items
   outer_massless lie t v below = λ k s lt.
-      let x : Span = get_or (get_or parts.outer.items t v).items k s in
+      let x : GhostSpan = get_or (get_or parts.outer.items t v).items k s in
       let is : IsSpan d ps (level_span (t * width) x) = part_span t v k s below lt in
       no_masses d ps x.strip x.source lie is.some (is.ghost_strip (some_patch ps (t * width + x.patch) is.there)).inside is.source (parted.outer t v below k s lt).1
 
 -- so what it found is
-pub outer_valued : (p : Problem) (l : ℕ) (old : Masses) (ps : List Patch) (plan : FramePlan) (width runs : ℕ) (parts : FrameParts) → PlansFrames (domain p l) ps plan → IsParted plan width runs parts → AreInDomain (domain p l) ps → (t : ℕ) (v : Vec Span) (x : OuterGhosts) → t < runs → x.spans.items ≡ (get_or parts.outer.items t v).items → ((m : Masses) → All (HasNoMass (domain p l) m) x.spans.items → AreOuterFor (value_at p l m old) (is_of_level p l m) x) → AreOuterFor (value_at p l (masses_in ps) old) (is_of_level p l (masses_in ps)) x
+pub outer_valued : (p : Problem) (l : ℕ) (old : Masses) (ps : List Patch) (plan : FramePlan) (width runs : ℕ) (parts : FrameParts) → PlansFrames (domain p l) ps plan → IsParted plan width runs parts → AreInDomain (domain p l) ps → (t : ℕ) (v : Vec GhostSpan) (x : OuterGhosts) → t < runs → x.spans.items ≡ (get_or parts.outer.items t v).items → ((m : Masses) → All (HasNoMass (domain p l) m) x.spans.items → AreOuterFor (value_at p l m old) (is_of_level p l m) x) → AreOuterFor (value_at p l (masses_in ps) old) (is_of_level p l (masses_in ps)) x
 outer_valued p l old ps plan width runs parts planned parted lie t v x below spans found =
     let d = domain p l in
     let m = masses_in ps in
@@ -172,9 +172,9 @@ module _ (d : Domain) (ps qs : List Patch) (plan : FramePlan) (width runs : ℕ)
       }
 
   -- the outer spans of run t lie beside its patches
-  pub outer_beside : (t : ℕ) (rs : List Patch) (v : Vec Span) → t < runs → IsRun width t qs rs → All (IsSpanBeside rs) (get_or parts.outer.items t v).items
+  pub outer_beside : (t : ℕ) (rs : List Patch) (v : Vec GhostSpan) → t < runs → IsRun width t qs rs → All (IsSpanBeside rs) (get_or parts.outer.items t v).items
   outer_beside t rs v below run = λ k s lt.
-      let x : Span = get_or (get_or parts.outer.items t v).items k s in
+      let x : GhostSpan = get_or (get_or parts.outer.items t v).items k s in
       let part = parted.outer t v below k s lt in
       let is : IsSpan d ps (level_span (t * width) x) = span_in d ps plan planned (level_span (t * width) x) part.2 in
       let there : x.patch < length rs = in_run t rs run x.patch part.0 is.there in
@@ -215,7 +215,7 @@ some_message (x ∷ xs) k lt = x
 -- ---- the frames of run t
 
 module _ (p : Problem) (l : ℕ) (old : Masses) (ps qs rs fs : List Patch) (plan : FramePlan) (width runs t : ℕ) (parts : FrameParts) (v : Vec FrameCopy) (messages : List Message) (planned : PlansFrames (domain p l) ps plan) (parted : IsParted plan width runs parts) (kept : AllZip KeepsCells ps qs) (below : t < runs) (run : IsRun width t qs rs) (apart : ArePatchesApart ps)
-    (w : Vec Span) (given : OuterGhosts) (spans : given.spans.items ≡ (get_or parts.outer.items t w).items) (valued : AreOuterFor (value_at p l (masses_in ps) old) (is_of_level p l (masses_in ps)) given)
+    (w : Vec GhostSpan) (given : OuterGhosts) (spans : given.spans.items ≡ (get_or parts.outer.items t w).items) (valued : AreOuterFor (value_at p l (masses_in ps) old) (is_of_level p l (masses_in ps)) given)
     (sent : AreMessagesTo parts width runs t qs messages) (filled : HasFilled given (get_or parts.copies.items (t * runs + t) v).items messages rs fs) where
   abbrev value : Cell → ℕ
   value = value_at p l (masses_in ps) old
@@ -262,9 +262,9 @@ module _ (p : Problem) (l : ℕ) (old : Masses) (ps qs rs fs : List Patch) (plan
   all_outer : Patch → All (HasOuter value mark fs) (get_or parts.outer.items t w).items
   all_outer q = All-same (HasOuter value mark fs) (get_or parts.outer.items t w).items given.spans.items (sym spans) (filled.outer value mark valued own_copied (all_messages q))
 
-  from_outer : (k : ℕ) (q : Patch) (c : Cell) (s : Span) → HasCell (t * width + k) c s → Any (λ (x : Span). level_span (t * width) x ≡ s) (get_or parts.outer.items t w).items → HasGhost value mark (get_or fs k q) c
+  from_outer : (k : ℕ) (q : Patch) (c : Cell) (s : GhostSpan) → HasCell (t * width + k) c s → Any (λ (x : GhostSpan). level_span (t * width) x ≡ s) (get_or parts.outer.items t w).items → HasGhost value mark (get_or fs k q) c
   from_outer k q c s has a =
-      let x : Span = a.1 in
+      let x : GhostSpan = a.1 in
       let is : HasCell (t * width + k) c (level_span (t * width) x) = subst (HasCell (t * width + k) c) (sym a.4) has in
       let same : x.patch ≡ k = let e : t * width + x.patch ≡ t * width + k = is.of_patch in omega (arith, e) in
       let set : HasOuter value mark fs x = subst (HasOuter value mark fs) a.3 (all_outer q a.0 x a.2) in
@@ -279,7 +279,7 @@ module _ (p : Problem) (l : ℕ) (old : Masses) (ps qs rs fs : List Patch) (plan
       All-same (HasCopy value mark fs) (copies u) (get_or messages u x).copies.items (sym (sent.copies u x v from_there other)) (filled.received value mark valued own_copied (all_messages q) u x sender)
 
   -- so a ghost cell that a copy fills has its own
-  from_copy : (k : ℕ) (q : Patch) (c : Cell) (s : Span) (u : ℕ) → u < runs → HasCell (t * width + k) c s → Any (λ (x : FrameCopy). span_of (t * width) (u * width) x ≡ s) (copies u) → HasGhost value mark (get_or fs k q) c
+  from_copy : (k : ℕ) (q : Patch) (c : Cell) (s : GhostSpan) (u : ℕ) → u < runs → HasCell (t * width + k) c s → Any (λ (x : FrameCopy). span_of (t * width) (u * width) x ≡ s) (copies u) → HasGhost value mark (get_or fs k q) c
   from_copy k q c s u from_there has a =
       let x : FrameCopy = a.1 in
       let is : HasCell (t * width + k) c (span_of (t * width) (u * width) x) = subst (HasCell (t * width + k) c) (sym a.4) has in
@@ -288,21 +288,21 @@ module _ (p : Problem) (l : ℕ) (old : Masses) (ps qs rs fs : List Patch) (plan
       subst (λ n. HasGhost value mark (get_or fs n q) c) same (subst (λ (e : Cell). HasGhost value mark (get_or fs x.patch q) e) (sym is.is) ((made q).at is.place is.within))
 
   -- the run that a span of a patch of this run is beside is this one
-  this_run : (to i k : ℕ) (c : Cell) (s : Span) → i < width → k < length rs → to * width + i ≡ s.patch → HasCell (t * width + k) c s → to ≡ t
+  this_run : (to i k : ℕ) (c : Cell) (s : GhostSpan) → i < width → k < length rs → to * width + i ≡ s.patch → HasCell (t * width + k) c s → to ≡ t
   this_run to i k c s low lt patch has = same_run width to t i k low (let small = run.small in omega (arith, lt, small)) (patch ∙ has.of_patch)
 
-  by_part : (k : ℕ) (q : Patch) (c : Cell) (s : Span) → k < length rs → HasCell (t * width + k) c s → IsInParts width runs parts s → HasGhost value mark (get_or fs k q) c
+  by_part : (k : ℕ) (q : Patch) (c : Cell) (s : GhostSpan) → k < length rs → HasCell (t * width + k) c s → IsInParts width runs parts s → HasGhost value mark (get_or fs k q) c
   by_part k q c s lt has (inl b) =
       let a = b.is w in
-      let x : Span = a.1 in
-      let low : x.patch < width = subst (λ (y : Span). y.patch < width) a.3 (parted.outer b.to w b.there a.0 x a.2).0 in
-      let same : b.to ≡ t = this_run b.to x.patch k c s low lt (ap (λ (y : Span). y.patch) a.4) has in
-      from_outer k q c s has (subst (λ n. Any (λ (y : Span). level_span (n * width) y ≡ s) (get_or parts.outer.items n w).items) same a)
+      let x : GhostSpan = a.1 in
+      let low : x.patch < width = subst (λ (y : GhostSpan). y.patch < width) a.3 (parted.outer b.to w b.there a.0 x a.2).0 in
+      let same : b.to ≡ t = this_run b.to x.patch k c s low lt (ap (λ (y : GhostSpan). y.patch) a.4) has in
+      from_outer k q c s has (subst (λ n. Any (λ (y : GhostSpan). level_span (n * width) y ≡ s) (get_or parts.outer.items n w).items) same a)
   by_part k q c s lt has (inr b) =
       let a = b.is v in
       let x : FrameCopy = a.1 in
       let low : x.patch < width = subst (λ (y : FrameCopy). y.patch < width) a.3 (parted.copies b.from b.to v b.from_there b.there a.0 x a.2).0 in
-      let same : b.to ≡ t = this_run b.to x.patch k c s low lt (ap (λ (y : Span). y.patch) a.4) has in
+      let same : b.to ≡ t = this_run b.to x.patch k c s low lt (ap (λ (y : GhostSpan). y.patch) a.4) has in
       from_copy k q c s b.from b.from_there has (subst (λ n. Any (λ (y : FrameCopy). span_of (n * width) (b.from * width) y ≡ s) (get_or parts.copies.items (b.from * runs + n) v).items) same a)
 
   by_span : (k : ℕ) (q : Patch) (c : Cell) → k < length rs → Any (HasCell (t * width + k) c) plan.spans.items → HasGhost value mark (get_or fs k q) c

@@ -13,7 +13,7 @@ use Rattle.amr_patch.proofs.Rows.{place_within}
 use Rattle.amr_ghost.specs.Parts.{ArePartedTo, IsElsewhere, IsInParts, IsOuterIn, IsSpanIn, level_span, span_of}
 use Rattle.amr_ghost.specs.declared.sources.Source.{Source}
 use Rattle.amr_ghost.specs.declared.sources.Source.TheVariants.{Beside, Coarser, Outside}
-use Rattle.amr_ghost.specs.declared.sources.Span.{Span}
+use Rattle.amr_ghost.specs.declared.sources.GhostSpan.{GhostSpan}
 use Rattle.amr_ghost.specs.declared.parts.FrameCopy.{FrameCopy}
 use Rattle.amr_ghost.specs.declared.parts.FrameParts.{FrameParts}
 use Rattle.amr_ghost.proofs.PlannedSpans.{any_more}
@@ -36,20 +36,20 @@ numbered width n =
     omega (arith, turned, whole)
 
 -- a span between patches of a level, as a copy
-abbrev pub copy_of : ℕ → Span → ℕ → Cell → FrameCopy
+abbrev pub copy_of : ℕ → GhostSpan → ℕ → Cell → FrameCopy
 copy_of width s j h = record { patch = s.patch % width; strip = s.strip; source = j % width; from = h }
 
-pub copy_is_span : (width : ℕ) (s : Span) (j : ℕ) (h : Cell) → s.source ≡ Beside j h → span_of (s.patch / width * width) (j / width * width) (copy_of width s j h) ≡ s
+pub copy_is_span : (width : ℕ) (s : GhostSpan) (j : ℕ) (h : Cell) → s.source ≡ Beside j h → span_of (s.patch / width * width) (j / width * width) (copy_of width s j h) ≡ s
 copy_is_span width s j h is = λ i. record { patch = numbered width s.patch i; strip = s.strip; source = source i }
   where
     source : Beside (j / width * width + j % width) h ≡ s.source
     source = ap (λ n. Beside n h) (numbered width j) ∙ sym is
 
 -- and one that gets no mass of a patch of the level, as a span of its run
-abbrev pub outer_of : ℕ → Span → Span
+abbrev pub outer_of : ℕ → GhostSpan → GhostSpan
 outer_of width s = record { patch = s.patch % width; strip = s.strip; source = s.source }
 
-pub outer_is_span : (width : ℕ) (s : Span) → level_span (s.patch / width * width) (outer_of width s) ≡ s
+pub outer_is_span : (width : ℕ) (s : GhostSpan) → level_span (s.patch / width * width) (outer_of width s) ≡ s
 outer_is_span width s = λ i. record { patch = numbered width s.patch i; strip = s.strip; source = s.source }
 
 -- a source that is no patch of the level
@@ -96,7 +96,7 @@ no_item vs n v j there empty lt = let e = ap length (empty n v there) in omega (
 -- ---- spans in parts
 
 -- no span is in parts yet
-pub none_parted : (ss : List Span) (width runs : ℕ) (parts : FrameParts) → length parts.outer.items ≡ runs → All (λ (v : Vec Span). v.items ≡ []) parts.outer.items → length parts.copies.items ≡ runs * runs → All (λ (v : Vec FrameCopy). v.items ≡ []) parts.copies.items → ArePartedTo ss 0 width runs parts
+pub none_parted : (ss : List GhostSpan) (width runs : ℕ) (parts : FrameParts) → length parts.outer.items ≡ runs → All (λ (v : Vec GhostSpan). v.items ≡ []) parts.outer.items → length parts.copies.items ≡ runs * runs → All (λ (v : Vec FrameCopy). v.items ≡ []) parts.copies.items → ArePartedTo ss 0 width runs parts
 none_parted ss width runs parts outer_count no_outer count no_copies = record {
   count = count;
   outer_count = outer_count;
@@ -108,28 +108,28 @@ none_parted ss width runs parts outer_count no_outer count no_copies = record {
 }
 
 -- one more span s
-module _ (ss : List Span) (k width runs : ℕ) (parts : FrameParts) (s : Span) (there : k < length ss) (is : get_or ss k s ≡ s) (h : ArePartedTo ss k width runs parts) where
-  is_here : (d : Span) → get_or ss k d ≡ s
+module _ (ss : List GhostSpan) (k width runs : ℕ) (parts : FrameParts) (s : GhostSpan) (there : k < length ss) (is : get_or ss k s ≡ s) (h : ArePartedTo ss k width runs parts) where
+  is_here : (d : GhostSpan) → get_or ss k d ≡ s
   is_here d = get_or_default ss k d s there ∙ is
 
   -- the spans so far stay in parts, and this one is
-  all_whole : (new : FrameParts) → ((x : Span) → IsInParts width runs parts x → IsInParts width runs new x) → IsInParts width runs new s → (j : ℕ) (d : Span) → j < k + 1 → IsInParts width runs new (get_or ss j d)
+  all_whole : (new : FrameParts) → ((x : GhostSpan) → IsInParts width runs parts x → IsInParts width runs new x) → IsInParts width runs new s → (j : ℕ) (d : GhostSpan) → j < k + 1 → IsInParts width runs new (get_or ss j d)
   all_whole new stay now j d lt = below_more (λ m. IsInParts width runs new (get_or ss m d)) k (λ m below. stay (get_or ss m d) (h.whole m d below)) (subst (IsInParts width runs new) (sym (is_here d)) now) j lt
 
   -- which gets no mass of the level, and lies beside a run
-  module _ (to : ℕ) (list : Vec Span) (outer : Span) (to_below : to < runs) (pushed : list.items ≡ (get_or parts.outer.items to list).items ++ outer ∷ []) (patch_below : outer.patch < width) (other : IsElsewhere outer.source) (outer_is : level_span (to * width) outer ≡ s) (lists : Vec (Vec Span)) (changed : lists.items ≡ set parts.outer.items to list) where
+  module _ (to : ℕ) (list : Vec GhostSpan) (outer : GhostSpan) (to_below : to < runs) (pushed : list.items ≡ (get_or parts.outer.items to list).items ++ outer ∷ []) (patch_below : outer.patch < width) (other : IsElsewhere outer.source) (outer_is : level_span (to * width) outer ≡ s) (lists : Vec (Vec GhostSpan)) (changed : lists.items ≡ set parts.outer.items to list) where
     abbrev wider : FrameParts
     wider = record { outer = lists; copies = parts.copies }
 
     in_outer : (t : ℕ) → t < runs → t < length parts.outer.items
     in_outer t lt = let n = h.outer_count in omega (arith, lt, n)
 
-    stays_wider : (x : Span) → IsInParts width runs parts x → IsInParts width runs wider x
+    stays_wider : (x : GhostSpan) → IsInParts width runs parts x → IsInParts width runs wider x
     stays_wider x (inl a) = inl (record {
       to = a.to;
       there = a.there;
-      is = λ v. subst (λ (ls : List (Vec Span)). Any (λ (y : Span). level_span (a.to * width) y ≡ x) (get_or ls a.to v).items) (sym changed)
-          (still_any parts.outer.items to list outer (in_outer to to_below) pushed (λ (y : Span). level_span (a.to * width) y ≡ x) a.to v (in_outer a.to a.there) (a.is v));
+      is = λ v. subst (λ (ls : List (Vec GhostSpan)). Any (λ (y : GhostSpan). level_span (a.to * width) y ≡ x) (get_or ls a.to v).items) (sym changed)
+          (still_any parts.outer.items to list outer (in_outer to to_below) pushed (λ (y : GhostSpan). level_span (a.to * width) y ≡ x) a.to v (in_outer a.to a.there) (a.is v));
     })
     stays_wider x (inr b) = inr (record { from = b.from; to = b.to; from_there = b.from_there; there = b.there; is = b.is })
 
@@ -137,8 +137,8 @@ module _ (ss : List Span) (k width runs : ℕ) (parts : FrameParts) (s : Span) (
     now_wider = inl (record {
       to = to;
       there = to_below;
-      is = λ v. subst (λ (ls : List (Vec Span)). Any (λ (y : Span). level_span (to * width) y ≡ s) (get_or ls to v).items) (sym changed)
-          (now_any parts.outer.items to list outer (in_outer to to_below) pushed (λ (y : Span). level_span (to * width) y ≡ s) v outer_is);
+      is = λ v. subst (λ (ls : List (Vec GhostSpan)). Any (λ (y : GhostSpan). level_span (to * width) y ≡ s) (get_or ls to v).items) (sym changed)
+          (now_any parts.outer.items to list outer (in_outer to to_below) pushed (λ (y : GhostSpan). level_span (to * width) y ≡ s) v outer_is);
     })
 
     is_outer : (t : ℕ) → t ≡ to → IsOuterIn ss width t outer
@@ -148,7 +148,7 @@ module _ (ss : List Span) (k width runs : ℕ) (parts : FrameParts) (s : Span) (
     outer_more = record {
       count = h.count;
       outer_count = ap length changed ∙ length-set parts.outer.items to list ∙ h.outer_count;
-      outer = λ t v lt. subst (λ (ls : List (Vec Span)). All (IsOuterIn ss width t) (get_or ls t v).items) (sym changed)
+      outer = λ t v lt. subst (λ (ls : List (Vec GhostSpan)). All (IsOuterIn ss width t) (get_or ls t v).items) (sym changed)
           (all_more parts.outer.items to list outer (in_outer to to_below) pushed (IsOuterIn ss width) t v (is_outer t) (h.outer t list lt) (h.outer t v lt));
       copies = h.copies;
       whole = all_whole wider stays_wider now_wider;
@@ -162,7 +162,7 @@ module _ (ss : List Span) (k width runs : ℕ) (parts : FrameParts) (s : Span) (
     in_copies : (u t : ℕ) → u < runs → t < runs → u * runs + t < length parts.copies.items
     in_copies u t low high = let below : u * runs + t < runs * runs = place_within u t runs runs low high in omega (arith, below, h.count)
 
-    stays_longer : (x : Span) → IsInParts width runs parts x → IsInParts width runs longer x
+    stays_longer : (x : GhostSpan) → IsInParts width runs parts x → IsInParts width runs longer x
     stays_longer x (inl a) = inl (record { to = a.to; there = a.there; is = a.is })
     stays_longer x (inr b) = inr (record {
       from = b.from;

@@ -15,7 +15,7 @@ use Rattle.amr_ghost.specs.Plans.{IsSource, IsSpan, PlansFrames}
 use Rattle.amr_ghost.specs.declared.sides.Strip.{Strip}
 use Rattle.amr_ghost.specs.declared.sources.Source.{Source}
 use Rattle.amr_ghost.specs.declared.sources.Source.TheVariants.{Beside, Coarser, Outside}
-use Rattle.amr_ghost.specs.declared.sources.Span.{Span}
+use Rattle.amr_ghost.specs.declared.sources.GhostSpan.{GhostSpan}
 use Rattle.amr_ghost.specs.declared.plan.FramePlan.{FramePlan}
 
 module _ (d : Domain) (ps qs : List Patch) (boxes : map box ps ≡ map box qs) where
@@ -43,7 +43,7 @@ module _ (d : Domain) (ps qs : List Patch) (boxes : map box ps ≡ map box qs) w
     gap = λ k lt. sym (same_cells (step s.axis c k)) ∙ h.gap k lt;
   }
 
-  pub span_of_boxes : (s : Span) → IsSpan d ps s → IsSpan d qs s
+  pub span_of_boxes : (s : GhostSpan) → IsSpan d ps s → IsSpan d qs s
   span_of_boxes s h = record {
     there = subst (λ (n : ℕ). s.patch < n) same_count h.there;
     some = h.some;

@@ -21,7 +21,7 @@ use Rattle.amr_ghost.specs.declared.sides.Side.{Side}
 use Rattle.amr_ghost.specs.declared.sides.Side.TheVariants.{East, North, South, West}
 use Rattle.amr_ghost.specs.declared.sides.Strip.{Strip}
 use Rattle.amr_ghost.specs.declared.sources.Source.{Source}
-use Rattle.amr_ghost.specs.declared.sources.Span.{Span}
+use Rattle.amr_ghost.specs.declared.sources.GhostSpan.{GhostSpan}
 use Rattle.amr_ghost.proofs.BoxSides.{beside_of, high_inside, parts_of}
 use Rattle.amr_ghost.proofs.Homes.{step_step}
 use Rattle.amr_ghost.proofs.Levels.{few_along}
@@ -89,23 +89,23 @@ further axis c c' done k is = ap (λ (s : Cell). step axis s k) is ∙ step_step
 pub any_more : {A : Type 0} (P : A → Type 0) (xs : List A) (y : A) → Any P xs → Any P (xs ++ y ∷ [])
 any_more P xs y a = (a.0, a.1, omega (arith, a.2, length-append xs (y ∷ [])), get_or_append_left xs (y ∷ []) a.1 a.0 a.2 ∙ a.3, a.4)
 
-pub keep_refl : (ss : List Span) → KeepSpans ss ss
+pub keep_refl : (ss : List GhostSpan) → KeepSpans ss ss
 keep_refl ss = record { at = λ i c h. h }
 
-pub keep_trans : (ss ts us : List Span) → KeepSpans ss ts → KeepSpans ts us → KeepSpans ss us
+pub keep_trans : (ss ts us : List GhostSpan) → KeepSpans ss ts → KeepSpans ts us → KeepSpans ss us
 keep_trans ss ts us first then = record { at = λ i c h. then.at i c (first.at i c h) }
 
-pub keep_push : (ss : List Span) (s : Span) → KeepSpans ss (ss ++ s ∷ [])
+pub keep_push : (ss : List GhostSpan) (s : GhostSpan) → KeepSpans ss (ss ++ s ∷ [])
 keep_push ss s = record { at = λ i c h. any_more (HasCell i c) ss s h }
 
-pub still_strip : (ss ts : List Span) (i : ℕ) (axis : Axis) (c : Cell) (count : ℕ) → KeepSpans ss ts → HaveStrip ss i axis c count → HaveStrip ts i axis c count
+pub still_strip : (ss ts : List GhostSpan) (i : ℕ) (axis : Axis) (c : Cell) (count : ℕ) → KeepSpans ss ts → HaveStrip ss i axis c count → HaveStrip ts i axis c count
 still_strip ss ts i axis c count kept h = record { at = λ k lt. kept.at i (step axis c k) (h.at k lt) }
 
-pub no_strip : (ss : List Span) (i : ℕ) (axis : Axis) (c : Cell) → HaveStrip ss i axis c 0
+pub no_strip : (ss : List GhostSpan) (i : ℕ) (axis : Axis) (c : Cell) → HaveStrip ss i axis c 0
 no_strip ss i axis c = record { at = λ k lt. absurd (omega arith) }
 
 -- a strip is had up to a place, and the next span begins there
-pub strip_push : (ss : List Span) (s : Span) (i : ℕ) (axis : Axis) (c c' : Cell) (done : ℕ) → s.patch ≡ i → s.strip.axis ≡ axis → s.strip.from ≡ c' → c' ≡ step axis c done → HaveStrip ss i axis c done → HaveStrip (ss ++ s ∷ []) i axis c (done + s.strip.count)
+pub strip_push : (ss : List GhostSpan) (s : GhostSpan) (i : ℕ) (axis : Axis) (c c' : Cell) (done : ℕ) → s.patch ≡ i → s.strip.axis ≡ axis → s.strip.from ≡ c' → c' ≡ step axis c done → HaveStrip ss i axis c done → HaveStrip (ss ++ s ∷ []) i axis c (done + s.strip.count)
 strip_push ss s i axis c c' done patch along_it from is h = record { at = λ k lt. by_place k lt (nat_lt k done) refl }
   where
     later : (k j : ℕ) → k ≡ done + j → j < s.strip.count → HasCell i (step axis c k) s
@@ -125,17 +125,17 @@ strip_push ss s i axis c c' done patch along_it from is h = record { at = λ k l
 
 -- ---- the sides of a patch, one after the other
 
-abbrev pub HaveSide : List Patch → List Span → ℕ → Side → Type 0
+abbrev pub HaveSide : List Patch → List GhostSpan → ℕ → Side → Type 0
 HaveSide ps ss i side = (q : Patch) → HaveStrip ss i (side_axis side) (side_from (box (get_or ps i q)) side) (side_count (box (get_or ps i q)) side)
 
 -- the strip that a call answers is the side
-pub side_strips : (ps : List Patch) (ss : List Span) (i : ℕ) (side : Side) (axis : Axis) (from : Cell) (count : ℕ) (b : Extent) → ((q : Patch) → box (get_or ps i q) ≡ b) → axis ≡ side_axis side → from ≡ side_from b side → count ≡ side_count b side → HaveStrip ss i axis from count → HaveSide ps ss i side
+pub side_strips : (ps : List Patch) (ss : List GhostSpan) (i : ℕ) (side : Side) (axis : Axis) (from : Cell) (count : ℕ) (b : Extent) → ((q : Patch) → box (get_or ps i q) ≡ b) → axis ≡ side_axis side → from ≡ side_from b side → count ≡ side_count b side → HaveStrip ss i axis from count → HaveSide ps ss i side
 side_strips ps ss i side axis from count b same a f n h q = rw (same q, ← a, ← f, ← n) h
 
-pub still_have : (ps : List Patch) (ss ts : List Span) (i : ℕ) (side : Side) → KeepSpans ss ts → HaveSide ps ss i side → HaveSide ps ts i side
+pub still_have : (ps : List Patch) (ss ts : List GhostSpan) (i : ℕ) (side : Side) → KeepSpans ss ts → HaveSide ps ss i side → HaveSide ps ts i side
 still_have ps ss ts i side kept h q = still_strip ss ts i (side_axis side) (side_from (box (get_or ps i q)) side) (side_count (box (get_or ps i q)) side) kept (h q)
 
-pub whole_spans : (ps : List Patch) (ss : List Span) (i : ℕ) → HaveSide ps ss i West → HaveSide ps ss i East → HaveSide ps ss i South → HaveSide ps ss i North → HaveFrame ps ss i
+pub whole_spans : (ps : List Patch) (ss : List GhostSpan) (i : ℕ) → HaveSide ps ss i West → HaveSide ps ss i East → HaveSide ps ss i South → HaveSide ps ss i North → HaveFrame ps ss i
 whole_spans ps ss i west east south north = record { at = λ q c h. beside_of (λ s. Any (HasCell i s) ss) (box (get_or ps i q)) (each q) c h }
   where
     each : (q : Patch) (side : Side) (k : ℕ) → k < side_count (box (get_or ps i q)) side → Any (HasCell i (step (side_axis side) (side_from (box (get_or ps i q)) side) k)) ss
@@ -144,5 +144,5 @@ whole_spans ps ss i west east south north = record { at = λ q c h. beside_of (�
     each q South k t = (south q).at k t
     each q North k t = (north q).at k t
 
-pub still_whole : (ps : List Patch) (ss ts : List Span) (i : ℕ) → KeepSpans ss ts → HaveFrame ps ss i → HaveFrame ps ts i
+pub still_whole : (ps : List Patch) (ss ts : List GhostSpan) (i : ℕ) → KeepSpans ss ts → HaveFrame ps ss i → HaveFrame ps ts i
 still_whole ps ss ts i kept h = record { at = λ q c t. kept.at i c (h.at q c t) }

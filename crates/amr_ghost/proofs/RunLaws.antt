@@ -14,7 +14,7 @@ use Rattle.amr_causes.specs.declared.no_memory.NoMemory.{NoMemory}
 use Rattle.amr_def.specs.Domain.{Domain}
 use Rattle.amr_patch.specs.declared.patches.Patch.{Patch}
 use Rattle.amr_ghost.specs.Plans.{ArePlannedRuns, HasCell, HaveFrame, IsSpan, KeepSpans, PlansFrames, PlansRun}
-use Rattle.amr_ghost.specs.declared.sources.Span.{Span}
+use Rattle.amr_ghost.specs.declared.sources.GhostSpan.{GhostSpan}
 use Rattle.amr_ghost.specs.declared.plan.FramePlan.{FramePlan}
 use Rattle.amr_ghost.proofs.PlannedSpans.{still_whole}
 
@@ -24,20 +24,20 @@ any_left P xs ys a = (a.0, a.1, omega (arith, a.2, length-append xs ys), get_or_
 any_right : {A : Type 0} (P : A → Type 0) (xs ys : List A) → Any P ys → Any P (xs ++ ys)
 any_right P xs ys a = (length xs + a.0, a.1, omega (arith, a.2, length-append xs ys), get_or-append-add xs ys a.0 a.1 ∙ a.3, a.4)
 
-keep_left : (ss ts : List Span) → KeepSpans ss (ss ++ ts)
+keep_left : (ss ts : List GhostSpan) → KeepSpans ss (ss ++ ts)
 keep_left ss ts = record { at = λ i c h. any_left (HasCell i c) ss ts h }
 
-keep_right : (ss ts : List Span) → KeepSpans ts (ss ++ ts)
+keep_right : (ss ts : List GhostSpan) → KeepSpans ts (ss ++ ts)
 keep_right ss ts = record { at = λ i c h. any_right (HasCell i c) ss ts h }
 
-pub no_run : (d : Domain) (ps : List Patch) (to : ℕ) (ss : List Span) → to ≡ 0 → ss ≡ [] → PlansRun d ps 0 to ss
+pub no_run : (d : Domain) (ps : List Patch) (to : ℕ) (ss : List GhostSpan) → to ≡ 0 → ss ≡ [] → PlansRun d ps 0 to ss
 no_run d ps to ss none empty = record {
   spans = rw empty (All-nil (IsSpan d ps));
   frames = λ i from lt there. absurd (omega (arith, none, lt));
 }
 
 -- a run, and the one from where it ends on
-next_run : (d : Domain) (ps : List Patch) (to next : ℕ) (ss ts : List Span) → PlansRun d ps 0 to ss → PlansRun d ps to next ts → PlansRun d ps 0 next (ss ++ ts)
+next_run : (d : Domain) (ps : List Patch) (to next : ℕ) (ss ts : List GhostSpan) → PlansRun d ps 0 to ss → PlansRun d ps to next ts → PlansRun d ps 0 next (ss ++ ts)
 next_run d ps to next ss ts first then = record {
   spans = All-append (IsSpan d ps) ss ts first.spans then.spans;
   frames = λ i from lt there. by_place i lt there (nat_lt i to) refl;
@@ -47,20 +47,20 @@ next_run d ps to next ss ts first then = record {
     by_place i lt there true e = still_whole ps ss (ss ++ ts) i (keep_left ss ts) (first.frames i (omega arith) (grind (arith, nat_tests)) there)
     by_place i lt there false e = still_whole ps ts (ss ++ ts) i (keep_right ss ts) (then.frames i (grind (arith, nat_tests)) lt there)
 
-module _ (d : Domain) (ps : List Patch) (size : ℕ) (runs : List (Result (Vec Span) NoMemory)) (run : Result (Vec Span) NoMemory) (all : ArePlannedRuns d ps size (runs ++ run ∷ [])) where
+module _ (d : Domain) (ps : List Patch) (size : ℕ) (runs : List (Result (Vec GhostSpan) NoMemory)) (run : Result (Vec GhostSpan) NoMemory) (all : ArePlannedRuns d ps size (runs ++ run ∷ [])) where
   runs_before : ArePlannedRuns d ps size runs
-  runs_before k r lt = subst (λ (x : Result (Vec Span) NoMemory). IfOk x (λ v. PlansRun d ps (k * size) (k * size + size) v.items)) (get_or_append_left runs (run ∷ []) r k lt) (all k r (omega (arith, lt, length-append runs (run ∷ []))))
+  runs_before k r lt = subst (λ (x : Result (Vec GhostSpan) NoMemory). IfOk x (λ v. PlansRun d ps (k * size) (k * size + size) v.items)) (get_or_append_left runs (run ∷ []) r k lt) (all k r (omega (arith, lt, length-append runs (run ∷ []))))
 
   last_run : IfOk run (λ v. PlansRun d ps (length runs * size) (length runs * size + size) v.items)
   last_run =
       let at : get_or (runs ++ run ∷ []) (length runs) run ≡ run = ap (λ (k : ℕ). get_or (runs ++ run ∷ []) k run) (omega arith) ∙ get_or-append-add runs (run ∷ []) 0 run in
-      subst (λ (x : Result (Vec Span) NoMemory). IfOk x (λ v. PlansRun d ps (length runs * size) (length runs * size + size) v.items)) at (all (length runs) run (omega (arith, length-append runs (run ∷ []))))
+      subst (λ (x : Result (Vec GhostSpan) NoMemory). IfOk x (λ v. PlansRun d ps (length runs * size) (length runs * size + size) v.items)) at (all (length runs) run (omega (arith, length-append runs (run ∷ []))))
 
 -- the spans of the next run stand behind those of the runs so far
-pub next_joined : (d : Domain) (ps : List Patch) (size : ℕ) (runs : List (Result (Vec Span) NoMemory)) (run : Result (Vec Span) NoMemory) (v : Vec Span) (ss all : List Span) → run ≡ Ok v → all ≡ ss ++ v.items → (ArePlannedRuns d ps size runs → PlansRun d ps 0 (length runs * size) ss) → ArePlannedRuns d ps size (runs ++ run ∷ []) → PlansRun d ps 0 (length (runs ++ run ∷ []) * size) all
+pub next_joined : (d : Domain) (ps : List Patch) (size : ℕ) (runs : List (Result (Vec GhostSpan) NoMemory)) (run : Result (Vec GhostSpan) NoMemory) (v : Vec GhostSpan) (ss all : List GhostSpan) → run ≡ Ok v → all ≡ ss ++ v.items → (ArePlannedRuns d ps size runs → PlansRun d ps 0 (length runs * size) ss) → ArePlannedRuns d ps size (runs ++ run ∷ []) → PlansRun d ps 0 (length (runs ++ run ∷ []) * size) all
 next_joined d ps size runs run v ss all is joined so_far planned =
     let first = so_far (runs_before d ps size runs run planned) in
-    let then : PlansRun d ps (length runs * size) (length runs * size + size) v.items = subst (λ (x : Result (Vec Span) NoMemory). IfOk x (λ u. PlansRun d ps (length runs * size) (length runs * size + size) u.items)) is (last_run d ps size runs run planned) in
+    let then : PlansRun d ps (length runs * size) (length runs * size + size) v.items = subst (λ (x : Result (Vec GhostSpan) NoMemory). IfOk x (λ u. PlansRun d ps (length runs * size) (length runs * size + size) u.items)) is (last_run d ps size runs run planned) in
     let count : length (runs ++ run ∷ []) ≡ length runs + 1 = length-append runs (run ∷ []) in
     let to : length (runs ++ run ∷ []) * size ≡ length runs * size + size = ap (λ (n : ℕ). n * size) count ∙ omega arith in
     rw (to, joined) (next_run d ps (length runs * size) (length runs * size + size) ss v.items first then)
@@ -73,7 +73,7 @@ whole_plan d ps to plan enough h = record {
 }
 
 -- a chunk of the patches is the run of its number
-pub run_of_chunk : (d : Domain) (ps chunk : List Patch) (size start : ℕ) (r : Result (Vec Span) NoMemory) → IsChunk ps size start chunk → IfOk r (λ v. PlansRun d ps start (start + length chunk) v.items) → IfOk r (λ v. PlansRun d ps start (start + size) v.items)
+pub run_of_chunk : (d : Domain) (ps chunk : List Patch) (size start : ℕ) (r : Result (Vec GhostSpan) NoMemory) → IsChunk ps size start chunk → IfOk r (λ v. PlansRun d ps start (start + length chunk) v.items) → IfOk r (λ v. PlansRun d ps start (start + size) v.items)
 run_of_chunk d ps chunk size start r is h = IfOk-weaker r (λ v. PlansRun d ps start (start + length chunk) v.items) (λ v. PlansRun d ps start (start + size) v.items)
     (λ v run. record {
       spans = run.spans;

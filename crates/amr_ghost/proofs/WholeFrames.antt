@@ -21,12 +21,12 @@ use Rattle.amr_ghost.specs.declared.messages.Message.{Message}
 use Rattle.amr_ghost.specs.declared.parts.FrameCopy.{FrameCopy}
 use Rattle.amr_ghost.specs.declared.parts.FrameParts.{FrameParts}
 use Rattle.amr_ghost.specs.declared.plan.FramePlan.{FramePlan}
-use Rattle.amr_ghost.specs.declared.sources.Span.{Span}
+use Rattle.amr_ghost.specs.declared.sources.GhostSpan.{GhostSpan}
 use Rattle.amr_ghost.proofs.PartLaws.{copies_received, copies_taken, outer_beside, outer_valued, run_frames}
 use Rattle.amr_ghost.proofs.Zips.{keeps_refl, zip_refl}
 
 module _ (p : Problem) (l : ℕ) (old : Masses) (ps : List Patch) (plan : FramePlan) (width : ℕ) (parts : FrameParts) (planned : PlansFrames (domain p l) ps plan) (parted : IsParted plan width 1 parts) (wide : length ps ≤ width) (apart : ArePatchesApart ps) (inside : AreInDomain (domain p l) ps)
-    (sources : FrameSources) (w : Vec Span) (v : Vec FrameCopy) (spans : sources.outer.spans.items ≡ (get_or parts.outer.items 0 w).items) (places : HasOuterPlaces sources.outer) (found : (m : Masses) → All (HasNoMass (domain p l) m) sources.outer.spans.items → AreOuterFor (value_at p l m old) (is_of_level p l m) sources.outer)
+    (sources : FrameSources) (w : Vec GhostSpan) (v : Vec FrameCopy) (spans : sources.outer.spans.items ≡ (get_or parts.outer.items 0 w).items) (places : HasOuterPlaces sources.outer) (found : (m : Masses) → All (HasNoMass (domain p l) m) sources.outer.spans.items → AreOuterFor (value_at p l m old) (is_of_level p l m) sources.outer)
     (copies : sources.copies.items ≡ (get_or parts.copies.items 0 v).items) (x : Message) (inbox : sources.inbox ≡ x ∷ []) (no_copies : x.copies.items ≡ []) (no_masses : x.masses.items ≡ []) where
   kept : AllZip KeepsCells ps ps
   kept = zip_refl KeepsCells keeps_refl ps

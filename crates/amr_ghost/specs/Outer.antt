@@ -21,7 +21,7 @@ use Rattle.amr_ghost.specs.GhostCells.{AreGiven, HasGhosts, KeepsCells, KeepsGho
 use Rattle.amr_ghost.specs.declared.sides.Strip.{Strip}
 use Rattle.amr_ghost.specs.declared.sources.Source.{Source}
 use Rattle.amr_ghost.specs.declared.sources.Source.TheVariants.{Beside, Coarser, Outside}
-use Rattle.amr_ghost.specs.declared.sources.Span.{Span}
+use Rattle.amr_ghost.specs.declared.sources.GhostSpan.{GhostSpan}
 use Rattle.amr_ghost.specs.declared.outer.OuterGhosts.{OuterGhosts}
 
 -- ---- where their values come from. It goes by the domain alone.
@@ -39,14 +39,14 @@ IsOuterSource d s (Beside j h) = ⊥
 IsOuterSource d s (Coarser h) = StandForInner d s h
 
 -- ghost cells in rows or columns of the domain, and where they get their values from
-pub record IsOuterSpan (d : Domain) (s : Span) : Type 0 where
+pub record IsOuterSpan (d : Domain) (s : GhostSpan) : Type 0 where
   pub some : 0 < s.strip.count
   pub small : s.strip.count ≤ 8192
   pub inside : (k : ℕ) → k < s.strip.count → IsTrue (is_inside (size_along s.strip.axis d) (along s.strip.axis s.strip.from +ℤ pos k))
   pub source : IsOuterSource d s.strip s.source
 
 -- they stand for no cell that has one of the masses m
-abbrev pub HasNoMass : Domain → Masses → Span → Type 0
+abbrev pub HasNoMass : Domain → Masses → GhostSpan → Type 0
 HasNoMass d m s = (k : ℕ) → k < s.strip.count → m (home_cell d (step s.strip.axis s.strip.from k)) ≡ None
 
 -- ---- their values
@@ -57,7 +57,7 @@ lent None = None
 lent (Some x) = Some (arc_value x)
 
 -- how many values spans take
-abbrev pub value_count : List Span → ℕ
+abbrev pub value_count : List GhostSpan → ℕ
 value_count [] = 0
 value_count (s ∷ ss) = s.strip.count + value_count ss
 
@@ -66,7 +66,7 @@ abbrev pub HasOuterPlaces : OuterGhosts → Type 0
 HasOuterPlaces x = length x.values.items ≡ value_count x.spans.items
 
 -- these are the values V of the ghost cells of spans, one span after another, and none of those has the mark M
-abbrev pub AreOuterValuesFor : (Cell → ℕ) → (Cell → Bool) → List Span → List ℕ → Type 0
+abbrev pub AreOuterValuesFor : (Cell → ℕ) → (Cell → Bool) → List GhostSpan → List ℕ → Type 0
 AreOuterValuesFor V M [] values = ⊤
 AreOuterValuesFor V M (s ∷ ss) values =
     AreGiven V M s.strip.axis s.strip.from s.strip.count (λ k. slice_index values k) false × AreOuterValuesFor V M ss (drop s.strip.count values)
@@ -77,7 +77,7 @@ AreOuterFor V M x = AreOuterValuesFor V M x.spans.items x.values.items
 -- ---- the patches that get them
 
 -- ghost cells beside one of these patches
-pub record IsSpanBeside (rs : List Patch) (s : Span) : Type 0 where
+pub record IsSpanBeside (rs : List Patch) (s : GhostSpan) : Type 0 where
   pub there : s.patch < length rs
   pub some : 0 < s.strip.count
   pub small : s.strip.count ≤ 8192
@@ -90,11 +90,11 @@ abbrev pub AreOuterBeside : List Patch → OuterGhosts → Type 0
 AreOuterBeside rs x = All (IsSpanBeside rs) x.spans.items × HasOuterPlaces x
 
 -- the ghost cells of a span have the value V and the mark M of their cell
-abbrev pub HasOuter : (Cell → ℕ) → (Cell → Bool) → List Patch → Span → Type 0
+abbrev pub HasOuter : (Cell → ℕ) → (Cell → Bool) → List Patch → GhostSpan → Type 0
 HasOuter V M fs s = (q : Patch) → HasGhosts V M (slice_index_or fs s.patch q) s.strip.axis s.strip.from s.strip.count
 
 -- the patches rs became fs where the ghost cells of spans were given values
-pub record HasOuterGiven (spans : List Span) (values : List ℕ) (rs fs : List Patch) : Type 0 where
+pub record HasOuterGiven (spans : List GhostSpan) (values : List ℕ) (rs fs : List Patch) : Type 0 where
   pub kept : AllZip KeepsCells rs fs
   pub ghosts : (V : Cell → ℕ) (M : Cell → Bool) → AreOuterValuesFor V M spans values → AllZip (KeepsGhosts V M) rs fs
   pub set : (V : Cell → ℕ) (M : Cell → Bool) → AreOuterValuesFor V M spans values → All (HasOuter V M fs) spans

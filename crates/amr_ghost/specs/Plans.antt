@@ -16,7 +16,7 @@ use Rattle.amr_ghost.specs.GhostCells.{IsGhostStrip}
 use Rattle.amr_ghost.specs.declared.sides.Strip.{Strip}
 use Rattle.amr_ghost.specs.declared.sources.Source.{Source}
 use Rattle.amr_ghost.specs.declared.sources.Source.TheVariants.{Beside, Coarser, Outside}
-use Rattle.amr_ghost.specs.declared.sources.Span.{Span}
+use Rattle.amr_ghost.specs.declared.sources.GhostSpan.{GhostSpan}
 use Rattle.amr_ghost.specs.declared.plan.FramePlan.{FramePlan}
 
 -- the cells of a strip stand for cells of patch j, from h on
@@ -40,7 +40,7 @@ IsSource d ps s (Beside j h) = StandForHeld d ps s j h
 IsSource d ps s (Coarser h) = StandInGap d ps s h
 
 -- ghost cells beside one of the patches, and where they get their values from
-pub record IsSpan (d : Domain) (ps : List Patch) (s : Span) : Type 0 where
+pub record IsSpan (d : Domain) (ps : List Patch) (s : GhostSpan) : Type 0 where
   pub there : s.patch < length ps
   pub some : 0 < s.strip.count
   pub small : s.strip.count ≤ 8192
@@ -49,33 +49,33 @@ pub record IsSpan (d : Domain) (ps : List Patch) (s : Span) : Type 0 where
   pub source : IsSource d ps s.strip s.source
 
 -- a span has a ghost cell of patch i
-pub record HasCell (i : ℕ) (c : Cell) (s : Span) : Type 0 where
+pub record HasCell (i : ℕ) (c : Cell) (s : GhostSpan) : Type 0 where
   pub of_patch : s.patch ≡ i
   pub place : ℕ
   pub within : place < s.strip.count
   pub is : c ≡ step s.strip.axis s.strip.from place
 
 -- spans have the first cells of a strip beside patch i
-pub record HaveStrip (ss : List Span) (i : ℕ) (axis : Axis) (c : Cell) (count : ℕ) : Type 0 where
+pub record HaveStrip (ss : List GhostSpan) (i : ℕ) (axis : Axis) (c : Cell) (count : ℕ) : Type 0 where
   pub at : (k : ℕ) → k < count → Any (HasCell i (step axis c k)) ss
 
 -- the cells that spans have stay ones that they have
-pub record KeepSpans (ss ts : List Span) : Type 0 where
+pub record KeepSpans (ss ts : List GhostSpan) : Type 0 where
   pub at : (i : ℕ) (c : Cell) → Any (HasCell i c) ss → Any (HasCell i c) ts
 
 -- spans have each ghost cell beside a patch
-pub record HaveFrame (ps : List Patch) (ss : List Span) (i : ℕ) : Type 0 where
+pub record HaveFrame (ps : List Patch) (ss : List GhostSpan) (i : ℕ) : Type 0 where
   pub at : (q : Patch) (c : Cell) → IsTrue (is_beside (box (slice_index_or ps i q)) c) → Any (HasCell i c) ss
 
 -- spans tell of each ghost cell beside each patch of a run, from patch `from` to before patch `to`, where it gets its value from
-pub record PlansRun (d : Domain) (ps : List Patch) (from to : ℕ) (ss : List Span) : Type 0 where
+pub record PlansRun (d : Domain) (ps : List Patch) (from to : ℕ) (ss : List GhostSpan) : Type 0 where
   pub spans : All (IsSpan d ps) ss
   pub frames : (i : ℕ) → from ≤ i → i < to → i < length ps → HaveFrame ps ss i
 
 -- the patches are cut into runs of one size, the last one perhaps shorter, and each list that is there tells it of the run of its number
-abbrev pub ArePlannedRuns : Domain → List Patch → ℕ → List (Result (Vec Span) NoMemory) → Type 0
+abbrev pub ArePlannedRuns : Domain → List Patch → ℕ → List (Result (Vec GhostSpan) NoMemory) → Type 0
 ArePlannedRuns d ps size runs =
-    (k : ℕ) (r : Result (Vec Span) NoMemory) → k < length runs → IfOk (slice_index_or runs k r) (λ v. PlansRun d ps (k * size) (k * size + size) v.items)
+    (k : ℕ) (r : Result (Vec GhostSpan) NoMemory) → k < length runs → IfOk (slice_index_or runs k r) (λ v. PlansRun d ps (k * size) (k * size + size) v.items)
 
 -- a plan tells of each ghost cell beside each of the patches where it gets its value from
 pub record PlansFrames (d : Domain) (ps : List Patch) (plan : FramePlan) : Type 0 where

@@ -22,4 +22,4 @@ pub use outer::OuterGhosts;
 pub use parts::{FrameCopy, FrameParts, part_frames};
 pub use plan::{FramePlan, plan_frames};
 pub use runs::plan_frames_in_threads;
-pub use sources::Span;
+pub use sources::GhostSpan;

@@ -19,7 +19,7 @@ use crate::entries::{Entries, entries_of, quarter_entries};
 use crate::ghosts::give_strip;
 use crate::outside::outside_value;
 use crate::places::{children_ahead, odd_along, step};
-use crate::sources::{Source, Span};
+use crate::sources::{GhostSpan, Source};
 use amr_box::{Axis, Cell, parent};
 use amr_causes::NoMemory;
 use amr_def::Problem;
@@ -32,7 +32,7 @@ use std::sync::Arc;
 #[derive(Drop)]
 pub struct OuterGhosts {
     /// Which ghost cells. Their patches are numbered within the run.
-    pub spans: Vec<Span>,
+    pub spans: Vec<GhostSpan>,
     /// The values, one span after another.
     pub values: Vec<u32>,
     /// The next coarser level at the start of its step, while a worker who has no other way to it works the values out; else none.
@@ -41,7 +41,7 @@ pub struct OuterGhosts {
 
 impl OuterGhosts {
     /// Ghost cells of these spans. All their values are 0. `NoMemory` is the only refusal.
-    pub fn make(alloc: Global, spans: Vec<Span>) -> Result<OuterGhosts, NoMemory>
+    pub fn make(alloc: Global, spans: Vec<GhostSpan>) -> Result<OuterGhosts, NoMemory>
         ensures spans { IfOk result (λ x. x.spans ≡ spans) }
         ensures places { IfOk result HasOuterPlaces }
     {
@@ -88,7 +88,7 @@ impl OuterGhosts {
 }
 
 /// How many values spans take. `NoMemory` where there are more than any memory has.
-fn count_values(spans: &[Span]) -> Result<usize, NoMemory>
+fn count_values(spans: &[GhostSpan]) -> Result<usize, NoMemory>
     ensures { IfOk result (λ count. count ≡ value_count spans.now) }
 {
     let mut count = 0usize;
@@ -183,7 +183,7 @@ fn quarter_values(old: Option<&Level>, axis: Axis, from: Cell, values: &mut [u32
 fn find_span(
     p: &Problem,
     l: u32,
-    span: Span,
+    span: GhostSpan,
     old: Option<&Level>,
     values: &mut [u32],
     near: &mut usize,
@@ -207,7 +207,7 @@ fn find_span(
 }
 
 /// Works out the values of the ghost cells of spans, one span after another.
-fn find_all(p: &Problem, l: u32, spans: &[Span], old: Option<&Level>, values: &mut [u32])
+fn find_all(p: &Problem, l: u32, spans: &[GhostSpan], old: Option<&Level>, values: &mut [u32])
     requires level { l ≤ 4 }
     requires spans { All (IsOuterSpan (domain p.now l)) spans.now }
     requires places { length values.old ≡ value_count spans.now }
@@ -227,7 +227,7 @@ fn find_all(p: &Problem, l: u32, spans: &[Span], old: Option<&Level>, values: &m
 }
 
 /// Gives the ghost cells of spans beside a run's patches their values, one span after another. None is marked as a cell of the level.
-pub(crate) fn give_outer(patches: &mut [Patch], spans: &[Span], values: &[u32])
+pub(crate) fn give_outer(patches: &mut [Patch], spans: &[GhostSpan], values: &[u32])
     requires spans { All (IsSpanBeside patches.old) spans.now }
     requires places { length values.now ≡ value_count spans.now }
     ensures { HasOuterGiven spans.now values.now patches.old patches.new }

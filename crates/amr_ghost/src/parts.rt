@@ -2,12 +2,12 @@
 
 ghost use Rattle.std.specs.Prelude.{◌≡◌, ℕ, ◌+◌, ◌*◌, ◌<◌, ◌^◌, length, slice_index_or, List, [], IfOk, OnOk};
 ghost use Rattle.std.specs.List.{All};
-ghost use Rattle.amr_ghost.specs.declared.sources.Span.{Span};
+ghost use Rattle.amr_ghost.specs.declared.sources.GhostSpan.{GhostSpan};
 ghost use Rattle.amr_ghost.specs.Parts.{ArePartedTo, IsParted, IsSpanBelow};
 
 use crate::plan::FramePlan;
 use crate::sides::Strip;
-use crate::sources::{Source, Span};
+use crate::sources::{GhostSpan, Source};
 use amr_box::Cell;
 use amr_causes::NoMemory;
 use std::alloc::Global;
@@ -26,23 +26,28 @@ pub struct FrameCopy {
 #[derive(Drop)]
 pub struct FrameParts {
     /// The ghost cells that get no mass of a patch of the level, by the run that they are beside. Their patches are numbered within it.
-    pub outer: Vec<Vec<Span>>,
+    pub outer: Vec<Vec<GhostSpan>>,
     /// All others, by the run that they get masses of, and for each by the run that they are beside.
     pub copies: Vec<Vec<FrameCopy>>,
 }
 
 /// Adds a span to the part that it belongs to.
-fn part_span(parts: &mut FrameParts, span: Span, width: usize, runs: usize) -> Result<(), NoMemory>
+fn part_span(
+    parts: &mut FrameParts,
+    span: GhostSpan,
+    width: usize,
+    runs: usize,
+) -> Result<(), NoMemory>
     requires some { 0 < width }
     requires few { runs < 2 ^ 32 }
     requires outer_count { length parts.old.outer.items ≡ runs }
     requires count { length parts.old.copies.items ≡ runs * runs }
     requires there { IsSpanBelow (runs * width) span }
-    ensures { OnOk result ((spans : List Span) (k : ℕ) → k < length spans → slice_index_or spans k span ≡ span → ArePartedTo spans k width runs parts.old
+    ensures { OnOk result ((spans : List GhostSpan) (k : ℕ) → k < length spans → slice_index_or spans k span ≡ span → ArePartedTo spans k width runs parts.old
         → ArePartedTo spans (k + 1) width runs parts.new) }
 {
     let Source::Beside(source, from) = span.source else {
-        let outer = Span {
+        let outer = GhostSpan {
             patch: span.patch % width,
             strip: span.strip,
             source: span.source,

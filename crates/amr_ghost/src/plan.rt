@@ -16,7 +16,7 @@ ghost use Rattle.amr_ghost.specs.Plans.{HaveFrame, HaveStrip, IsSpan, KeepSpans,
 use crate::lookup::{NearSides, Target, near_first};
 use crate::places::step;
 use crate::sides::{Side, Strip, side_strip};
-use crate::sources::{Span, span_ahead};
+use crate::sources::{GhostSpan, span_ahead};
 use amr_causes::NoMemory;
 use amr_def::Problem;
 use amr_patch::{Order, Patch, Starts};
@@ -25,7 +25,7 @@ use std::alloc::Global;
 /// Where each ghost cell beside each patch of a level gets its value from. It depends on boxes alone, so it serves until a regrid.
 #[derive(Drop)]
 pub struct FramePlan {
-    pub(crate) spans: Vec<Span>,
+    pub(crate) spans: Vec<GhostSpan>,
 }
 
 /// Adds the spans of the ghost cells of a strip beside a patch.
@@ -35,7 +35,7 @@ fn plan_strip(
     target: Target<'_>,
     strip: Strip,
     near: &mut usize,
-    spans: &mut Vec<Span>,
+    spans: &mut Vec<GhostSpan>,
 ) -> Result<(), NoMemory>
     requires level { target.level ≤ 4 }
     requires patches { IsLevelInOrder (domain p.now target.level) target.order (option_copied target.starts) patches.now }
@@ -70,7 +70,7 @@ fn plan_side(
     target: Target<'_>,
     side: Side,
     near: &mut usize,
-    spans: &mut Vec<Span>,
+    spans: &mut Vec<GhostSpan>,
 ) -> Result<(), NoMemory>
     requires level { target.level ≤ 4 }
     requires patches { IsLevelInOrder (domain p.now target.level) target.order (option_copied target.starts) patches.now }
@@ -92,7 +92,7 @@ fn plan_frame(
     patches: &[Patch],
     target: Target<'_>,
     near: &mut NearSides,
-    spans: &mut Vec<Span>,
+    spans: &mut Vec<GhostSpan>,
 ) -> Result<(), NoMemory>
     requires level { target.level ≤ 4 }
     requires patches { IsLevelInOrder (domain p.now target.level) target.order (option_copied target.starts) patches.now }
@@ -116,7 +116,7 @@ pub(crate) fn plan_run(
     patches: &[Patch],
     first: Target<'_>,
     to: usize,
-) -> Result<Vec<Span>, NoMemory>
+) -> Result<Vec<GhostSpan>, NoMemory>
     requires level { first.level ≤ 4 }
     requires patches { IsLevelInOrder (domain p.now first.level) first.order (option_copied first.starts) patches.now }
     requires there { to ≤ length patches.now }

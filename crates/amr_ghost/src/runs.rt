@@ -13,7 +13,7 @@ ghost use Rattle.amr_ghost.specs.Plans.{ArePlannedRuns, PlansFrames, PlansRun};
 
 use crate::lookup::Target;
 use crate::plan::{FramePlan, plan_frames, plan_run};
-use crate::sources::Span;
+use crate::sources::GhostSpan;
 use amr_causes::NoMemory;
 use amr_def::Problem;
 use amr_patch::{Order, Patch, Starts};
@@ -24,7 +24,10 @@ use std::thread::{Threads, map_chunks};
 const MANY: usize = 256;
 
 /// The spans of all runs, in order. `NoMemory` where a run has none.
-fn join_runs(alloc: Global, runs: Vec<Result<Vec<Span>, NoMemory>>) -> Result<Vec<Span>, NoMemory>
+fn join_runs(
+    alloc: Global,
+    runs: Vec<Result<Vec<GhostSpan>, NoMemory>>,
+) -> Result<Vec<GhostSpan>, NoMemory>
     ensures { IfOk result (λ v. (d : Domain) (ps : List Patch) (size : ℕ) → ArePlannedRuns d ps size runs.items
         → PlansRun d ps 0 (length runs.items * size) v.items) }
 {
@@ -58,7 +61,7 @@ pub fn plan_frames_in_threads<R: Threads + Sync>(
     if threads < 2 || patches.len() < MANY {
         return plan_frames(alloc, p, l, patches, order, starts);
     }
-    let plan = move |from: usize, run: &[Patch]| -> Result<Vec<Span>, NoMemory>
+    let plan = move |from: usize, run: &[Patch]| -> Result<Vec<GhostSpan>, NoMemory>
         requires level { l ≤ 4 }
         requires patches { IsLevelInOrder (domain p.now l) order (Some starts.now) patches.now }
         requires within { from + length run.now ≤ length patches.now }

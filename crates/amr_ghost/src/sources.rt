@@ -31,7 +31,7 @@ pub(crate) enum Source {
 
 /// Ghost cells beside a patch, along an axis, that get their values from one place.
 #[derive(Clone, Copy, Debug)]
-pub struct Span {
+pub struct GhostSpan {
     pub(crate) patch: usize,
     pub(crate) strip: Strip,
     pub(crate) source: Source,
@@ -46,7 +46,7 @@ pub(crate) fn span_ahead(
     target: Target<'_>,
     strip: Strip,
     near: &mut usize,
-) -> Span
+) -> GhostSpan
     requires level { target.level ≤ 4 }
     requires patches { IsLevelInOrder (domain p.now target.level) target.order (option_copied target.starts) patches.now }
     requires there { target.patch < length patches.now }
@@ -64,7 +64,7 @@ pub(crate) fn span_ahead(
     let dom = p.domain(target.level);
     let home = dom.home_cell(strip.from);
     if !dom.in_domain(home) {
-        return Span {
+        return GhostSpan {
             patch: target.patch,
             strip,
             source: Source::Outside,
@@ -73,7 +73,7 @@ pub(crate) fn span_ahead(
     match find_near(patches, target.order, near, home) {
         Some(j) => {
             let ahead = cells_ahead(&patches[j].bx(), strip.axis, home);
-            Span {
+            GhostSpan {
                 patch: target.patch,
                 strip: first_of(strip, ahead.min(strip.count)),
                 source: Source::Beside(j, home),
@@ -81,7 +81,7 @@ pub(crate) fn span_ahead(
         }
         None => {
             let ahead = gap_ahead(target.starts, strip.axis, home, strip.count);
-            Span {
+            GhostSpan {
                 patch: target.patch,
                 strip: first_of(strip, ahead),
                 source: Source::Coarser(home),

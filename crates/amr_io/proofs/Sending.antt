@@ -2,7 +2,7 @@
 use Rattle.std.proofs.Common.{◌≡◌, ℕ, zero, suc, ◌+◌, ◌<◌, length, take, drop, get_or, refl, arith, add-one, List, [], ◌∷◌, ◌++◌, sym, ◌∙◌, ap, append_assoc, subst}
 use Rattle.std.proofs.lemmas.List.{append-nil}
 use Rattle.amr_causes.specs.Bytes.{Grows, TakesPrefix}
-use Rattle.amr_io.specs.Kept.{Sent, fragment_text, fragments_text}
+use Rattle.amr_io.specs.Buffered.{Sent, fragment_text, fragments_text}
 use Rattle.amr_io.specs.declared.fragment.Fragment.{Fragment}
 use Rattle.amr_causes.proofs.ByteLaws.{grows_more, grows_to, takes_longer}
 

@@ -2,7 +2,7 @@
 use Rattle.std.proofs.Common.{◌≡◌, ℕ, ◌+◌, ◌<◌, length, take, drop, get_or, arith, List, [], ◌++◌, sym, ◌∙◌, ap, append_assoc, subst, length-drop, length-append}
 use Rattle.std.proofs.lemmas.List.{take-append-drop}
 use Rattle.amr_causes.specs.Bytes.{Grows, TakesPrefix}
-use Rattle.amr_io.specs.Kept.{Sent, fragment_text, fragments_text}
+use Rattle.amr_io.specs.Buffered.{Sent, fragment_text, fragments_text}
 use Rattle.amr_io.specs.Short.{IsProperPrefix, FallsShort}
 use Rattle.amr_io.specs.declared.fragment.Fragment.{Fragment}
 use Rattle.amr_causes.proofs.ByteLaws.{grows_more}

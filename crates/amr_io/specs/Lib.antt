@@ -1,4 +1,4 @@
-pub mod Kept
+pub mod Buffered
 pub mod Short
 pub mod Memory
 pub mod Counts

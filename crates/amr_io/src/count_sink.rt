@@ -3,7 +3,7 @@ ghost use Rattle.std.specs.Prelude.{◌≡◌, ℕ, ◌+◌, ◌<◌, ◌≤◌,
 ghost use Rattle.amr_causes.specs.Causes.{HasCause};
 ghost use Rattle.amr_causes.specs.Bytes.{Grows, written};
 ghost use Rattle.amr_io.specs.Counts.{Counts, capped};
-ghost use Rattle.amr_io.specs.Kept.{entry_text, fragment_text, fragments_text};
+ghost use Rattle.amr_io.specs.Buffered.{entry_text, fragment_text, fragments_text};
 
 use crate::digits::count_digits;
 use crate::{Fragment, Sink, WriteFault};

@@ -2,7 +2,7 @@
 ghost use Rattle.std.specs.Prelude.{◌≡◌, ◌≤◌, ◌<◌, ◌+◌, ◌++◌, [], cond, codes, length, OnOk, OnErr, decimal};
 ghost use Rattle.amr_causes.specs.Causes.{HasCause};
 ghost use Rattle.amr_causes.specs.Bytes.{Grows, TakesPrefix};
-ghost use Rattle.amr_io.specs.Kept.{Sent, entry_text, fragment_text, fragments_text};
+ghost use Rattle.amr_io.specs.Buffered.{Sent, entry_text, fragment_text, fragments_text};
 ghost use Rattle.amr_io.specs.Short.{FallsShort};
 
 use crate::digits::count_digits;

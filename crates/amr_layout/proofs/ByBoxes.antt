@@ -18,7 +18,7 @@ use Rattle.amr_patch.specs.Patches.{box, in_patches}
 use Rattle.amr_patch.proofs.SameBoxes.{in_same_boxes, same_length}
 use Rattle.amr_faces.specs.Faces.{passing, x_end, y_end}
 use Rattle.amr_layout.specs.Adds.{cell_beyond, flow_to, flows_of, goes_on, is_ledger_face, number_of, word_of}
-use Rattle.amr_layout.specs.declared.alone.LevelFlows.{LevelFlows}
+use Rattle.amr_layout.specs.declared.level_flows.LevelFlows.{LevelFlows}
 use Rattle.amr_layout.specs.Grounds.{SameGround, has_open_side}
 use Rattle.amr_layout.specs.LevelFlowLists.{AreFlowsOf, flows_in_first, level_flows}
 use Rattle.amr_layout.specs.Places.{are_grouped, border_places, borders_of, holder_of, leads_on, level_borders, places_before, puts_among, puts_of}

@@ -8,7 +8,7 @@ use Rattle.amr_patch.specs.Orders.{IsOrderOf}
 use Rattle.amr_patch.specs.Patches.{ArePatchesApart, box}
 use Rattle.amr_layout.specs.declared.FlowTo.{FlowTo}
 use Rattle.amr_layout.specs.declared.adds.Surroundings.{Surroundings}
-use Rattle.amr_layout.specs.declared.alone.LevelFlows.{LevelFlows}
+use Rattle.amr_layout.specs.declared.level_flows.LevelFlows.{LevelFlows}
 use Rattle.amr_layout.specs.Adds.{AreInOrder, HasCellsBeyond, HasRegisterCells, flows_of}
 use Rattle.amr_layout.specs.Arounds.{CanSearch, HasWordsFor, around_of}
 use Rattle.amr_layout.specs.LevelFlowLists.{AreFlowsOf, level_flows}

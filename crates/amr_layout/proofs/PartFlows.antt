@@ -11,7 +11,7 @@ use Rattle.std.proofs.lemmas.List.Elements.{All-push, AllZip-push}
 use Rattle.std.proofs.lemmas.List.Folds.{sum_by-replicate}
 use Rattle.std.proofs.lemmas.List.Sums.{count_by-le-length, sum_by-set}
 use Rattle.amr_layout.specs.declared.FlowTo.{FlowTo}
-use Rattle.amr_layout.specs.declared.alone.LevelFlows.{LevelFlows}
+use Rattle.amr_layout.specs.declared.level_flows.LevelFlows.{LevelFlows}
 use Rattle.std.proofs.lemmas.List.FromFn.{get_or-range_with_len, length-range_with_len}
 use Rattle.amr_layout.specs.LevelFlowLists.{HasFlowsAt, flow_lists, flows_at}
 use Rattle.amr_layout.specs.PartFlows.{AppendsNumbered, AreNumbered, AreNumbersOf, AreOnce, IsLonger, IsNumbered}

@@ -15,7 +15,7 @@ use Rattle.amr_patch.specs.Patches.{ArePatchesApart, box}
 use Rattle.amr_layout.specs.declared.PatchLayout.{PatchLayout}
 use Rattle.amr_layout.specs.declared.PutAt.{PutAt}
 use Rattle.amr_layout.specs.declared.adds.Surroundings.{Surroundings}
-use Rattle.amr_layout.specs.declared.alone.LevelFlows.{LevelFlows}
+use Rattle.amr_layout.specs.declared.level_flows.LevelFlows.{LevelFlows}
 use Rattle.amr_layout.specs.Adds.{AreInOrder, HasCellsBeyond}
 use Rattle.amr_layout.specs.LevelFlowLists.{AreFlowsOfRun}
 use Rattle.amr_layout.specs.Places.{HasMask, level_borders, level_places, puts_of}

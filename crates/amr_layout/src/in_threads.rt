@@ -14,7 +14,7 @@ ghost use Rattle.amr_layout.specs.Adds.{HasCellsBeyond, HasRegisterCells};
 ghost use Rattle.amr_layout.specs.LevelFlowLists.{AreFlowsOf, AreFlowsOfRun};
 
 use crate::adds::Surroundings;
-use crate::alone::{LevelFlows, flows_of_run, plan_adds};
+use crate::level_flows::{LevelFlows, flows_of_run, plan_adds};
 use amr_causes::NoMemory;
 use amr_patch::Patch;
 use std::alloc::Global;

@@ -4,10 +4,10 @@
 #![tactic(auto)]
 
 mod adds;
-mod alone;
 mod faces;
 mod in_threads;
 mod layouts;
+mod level_flows;
 mod lookup;
 mod parts;
 mod places;
@@ -15,9 +15,9 @@ mod registers;
 mod stretches;
 
 pub use crate::adds::Surroundings;
-pub use crate::alone::{LevelFlows, plan_adds};
 pub use crate::in_threads::plan_adds_in_threads;
 pub use crate::layouts::plan;
+pub use crate::level_flows::{LevelFlows, plan_adds};
 pub use crate::parts::{RunFlows, flows_of_part};
 use amr_box::Face;
 

@@ -6,7 +6,7 @@ ghost use Rattle.amr_layout.specs.LevelFlowLists.{HasFlowsAt, flow_lists, flows_
 ghost use Rattle.amr_layout.specs.PartFlows.{AppendsNumbered, AreNumbered, AreNumbersOf, AreOnce, IsLonger};
 
 use crate::FlowTo;
-use crate::alone::LevelFlows;
+use crate::level_flows::LevelFlows;
 use amr_causes::NoMemory;
 use std::alloc::Global;
 

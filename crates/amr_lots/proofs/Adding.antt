@@ -10,8 +10,8 @@ use Rattle.amr_patch.specs.declared.patches.Patch.{Patch}
 use Rattle.amr_patch.specs.Places.{is_edge_face}
 use Rattle.amr_patch.specs.Patches.{box}
 use Rattle.amr_phase.proofs.Sums.{total_more, total_take}
-use Rattle.amr_flux.specs.Sides.{Side, includes, side_of}
-use Rattle.amr_flux.specs.declared.fluxes.Sides.{Sides}
+use Rattle.amr_flux.specs.PatchSides.{Side, includes, side_of}
+use Rattle.amr_flux.specs.declared.fluxes.PatchSides.{PatchSides}
 use Rattle.amr_layout.specs.declared.FlowTo.{FlowTo}
 use Rattle.amr_layout.specs.Adds.{size_to, word_total}
 use Rattle.amr_lots.specs.Lots.{AreEdgeFlows, LieOn}
@@ -55,7 +55,7 @@ module _ (size : Face → ℕ) (flows : List FlowTo) (old words : List ℕ) (n :
 
 -- ---- by fluxes that agree on a patch's own edges, on some sides
 
-pub flows_alike : (q : Patch) (s : Sides) (e e' : Fluxes) (word : ℕ) (flows : List FlowTo) → AreEdgeFlows q flows → LieOn s (box q) flows → ((f : Face) → is_edge_face (box q) f ≡ true → includes s (side_of (box q) f) ≡ true → e f ≡ e' f)
+pub flows_alike : (q : Patch) (s : PatchSides) (e e' : Fluxes) (word : ℕ) (flows : List FlowTo) → AreEdgeFlows q flows → LieOn s (box q) flows → ((f : Face) → is_edge_face (box q) f ≡ true → includes s (side_of (box q) f) ≡ true → e f ≡ e' f)
     → word_total (λ f. unsigned_abs (e f)) word flows ≡ word_total (λ f. unsigned_abs (e' f)) word flows
 flows_alike q s e e' word flows own lie same =
     total_each (size_to (λ f. unsigned_abs (e f)) word) (size_to (λ f. unsigned_abs (e' f)) word) flows (λ k d lt.
@@ -64,12 +64,12 @@ flows_alike q s e e' word flows own lie same =
     ap (λ n. if x.word == word then n else 0) (ap unsigned_abs (same x.face o (lie k d lt))))
 
 -- no flows lie on no side
-pub none_lie : (s : Sides) (b : Extent) (flows : List FlowTo) → ((x : Side) → includes s x ≡ false) → LieOn s b flows → length flows ≡ 0
+pub none_lie : (s : PatchSides) (b : Extent) (flows : List FlowTo) → ((x : Side) → includes s x ≡ false) → LieOn s b flows → length flows ≡ 0
 none_lie s b [] none lie = refl
 none_lie s b (x ∷ flows) none lie = let wrong : true ≡ false = sym (lie 0 x (omega arith)) ∙ none (side_of b x.face) in absurd (cc)
 
 -- sides with one more have those that were there
-pub with_more : (s r : Sides) (y : Side) → includes r y ≡ true → ((x : Side) → (x ≡ y → ⊥) → includes r x ≡ includes s x) → (x : Side) → includes s x ≡ true → includes r x ≡ true
+pub with_more : (s r : PatchSides) (y : Side) → includes r y ≡ true → ((x : Side) → (x ≡ y → ⊥) → includes r x ≡ includes s x) → (x : Side) → includes s x ≡ true → includes r x ≡ true
 with_more s r y there others x e = by_value (includes r x) refl
   where
     by_value : (b : Bool) → includes r x ≡ b → includes r x ≡ true

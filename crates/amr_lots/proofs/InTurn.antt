@@ -9,9 +9,9 @@ use Rattle.amr_box.specs.Cells.{width}
 use Rattle.amr_def.specs.declared.problem.Problem.{Problem}
 use Rattle.amr_patch.specs.declared.patches.Patch.{Patch}
 use Rattle.amr_patch.specs.Patches.{box}
-use Rattle.amr_flux.specs.declared.fluxes.Sides.{Sides}
+use Rattle.amr_flux.specs.declared.fluxes.PatchSides.{PatchSides}
 use Rattle.amr_layout.specs.declared.FlowTo.{FlowTo}
-use Rattle.amr_layout.specs.declared.alone.LevelFlows.{LevelFlows}
+use Rattle.amr_layout.specs.declared.level_flows.LevelFlows.{LevelFlows}
 use Rattle.amr_layout.specs.LevelFlowLists.{flow_lists, flows_at}
 use Rattle.amr_lots.specs.Lots.{AreEdgeFlows, AreReady, CanAdd, LieOn, MayStep, adds_to, lot_total}
 use Rattle.amr_lots.specs.Ready.{HasFlowsIn}
@@ -30,7 +30,7 @@ zeros ws n e word = ap (λ us. slice_index us word) e ∙ from (cases_lt word n)
     from (inr le) = get_or_past (replicate {A = ℕ} n 0) word 0 (omega (arith, le, length-replicate {A = ℕ} n 0))
 
 -- what stands for sides that are not there
-abbrev pub no_sides : Sides
+abbrev pub no_sides : PatchSides
 no_sides = record { x_low = false; x_high = false; y_low = false; y_high = false }
 
 -- the flows of one of so many patches
@@ -50,7 +50,7 @@ pub record AreUpTo (R : ℕ → Patch → Patch → Type 0) (p : Problem) (l : �
 pub none_done : (R : ℕ → Patch → Patch → Type 0) (p : Problem) (l : ℕ) (qs : List Patch) (xss : List (List FlowTo)) (ws : List ℕ) → ((word : ℕ) → slice_index ws word ≡ 0) → AreUpTo R p l qs xss qs ws 0
 none_done R p l qs xss ws none = record { changed = none_changed R qs; totals = none }
 
-module _ (R : ℕ → Patch → Patch → Type 0) (p : Problem) (l columns many : ℕ) (qs : List Patch) (v : LevelFlows) (sides : List Sides) (ready : AreReady p l columns many qs (flow_lists v (length qs))) (flows : HasFlowsIn v sides qs)
+module _ (R : ℕ → Patch → Patch → Type 0) (p : Problem) (l columns many : ℕ) (qs : List Patch) (v : LevelFlows) (sides : List PatchSides) (ready : AreReady p l columns many qs (flow_lists v (length qs))) (flows : HasFlowsIn v sides qs)
     (rs : List Patch) (ws : List ℕ) (n : ℕ) (up : AreUpTo R p l qs (flow_lists v (length qs)) rs ws n) where
   abbrev xss : List (List FlowTo)
   xss = flow_lists v (length qs)

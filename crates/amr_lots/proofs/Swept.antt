@@ -16,8 +16,8 @@ use Rattle.amr_patch.specs.declared.patches.Patch.{Patch}
 use Rattle.amr_patch.specs.Patches.{box, flux_in}
 use Rattle.amr_patch.specs.Places.{is_edge_face}
 use Rattle.amr_faces.specs.Faces.{IsInDomain, ShowsValues, in_reach}
-use Rattle.amr_flux.specs.Sides.{includes, side_of}
-use Rattle.amr_flux.specs.declared.fluxes.Sides.{Sides}
+use Rattle.amr_flux.specs.PatchSides.{includes, side_of}
+use Rattle.amr_flux.specs.declared.fluxes.PatchSides.{PatchSides}
 use Rattle.amr_faces.proofs.EdgeFaces.{edge_is_face}
 use Rattle.amr_ghost.specs.GhostCells.{KeepsCells}
 use Rattle.amr_ghost.specs.Outer.{HasOuterPlaces}
@@ -110,7 +110,7 @@ module _ (plan : PlanOf) (w : Work) (may : MayStepBeside plan w) (after : Lot) (
     kept : KeepsCells (get_or (patches_of w) k q) (get_or h.all.filled k q)
     kept = keeps plan w may after.workspace.outer h.all.filled h.all.begun.outer h.all.begun.filled k q lt
 
-    swept : (d : Sides) → IsSweptOn w.basis.value.problem.value w.level (get_or w.lot.value.workspace.sides.items k d) (get_or h.all.filled k q) (get_or after.patches.items k q)
+    swept : (d : PatchSides) → IsSweptOn w.basis.value.problem.value w.level (get_or w.lot.value.workspace.sides.items k d) (get_or h.all.filled k q) (get_or after.patches.items k q)
     swept d = h.all.swept.each k q d (omega (arith, lt, all_count))
 
     shown : ShowsValues w.basis.value.problem.value w.level (masses_of w.basis.value) (coarser_of w.basis.value) (get_or h.all.filled k q)

@@ -11,7 +11,7 @@ use Rattle.amr_patch.specs.Patches.{box, flux_in}
 use Rattle.amr_faces.specs.Faces.{flux_beside}
 use Rattle.amr_faces.specs.Faces.{masked_faces}
 use Rattle.amr_flux.specs.Rooms.{widest}
-use Rattle.amr_flux.specs.declared.fluxes.Sides.{Sides}
+use Rattle.amr_flux.specs.declared.fluxes.PatchSides.{PatchSides}
 use Rattle.amr_phase.specs.declared.plan.Post.{Post}
 use Rattle.amr_phase.specs.Plans.{no_post}
 use Rattle.amr_layout.specs.declared.PatchLayout.{PatchLayout}
@@ -52,9 +52,9 @@ pub record HasSteppedAlone (p : Problem) (l : ℕ) (qs : List Patch) (edges : Li
   pub stepped : AllZip (HasStepped p l) filled rs
 
 -- the fluxes of each patch on its sides were worked out
-pub record AreSweptOn (p : Problem) (l : ℕ) (sides : List Sides) (qs rs : List Patch) : Type 0 where
+pub record AreSweptOn (p : Problem) (l : ℕ) (sides : List PatchSides) (qs rs : List Patch) : Type 0 where
   pub count : length rs ≡ length qs
-  pub each : (k : ℕ) (q : Patch) (d : Sides) → k < length qs → IsSweptOn p l (slice_index_or sides k d) (slice_index_or qs k q) (slice_index_or rs k q)
+  pub each : (k : ℕ) (q : Patch) (d : PatchSides) → k < length qs → IsSweptOn p l (slice_index_or sides k d) (slice_index_or qs k q) (slice_index_or rs k q)
 
 -- and all patches were swept
 pub record HasSweptAll (p : Problem) (l : ℕ) (qs : List Patch) (edges : List (Vec EdgeCell)) (s : Workspace) (rs : List Patch) (found : List (Vec EdgeCell))

@@ -13,8 +13,8 @@ use Rattle.amr_patch.specs.declared.patches.Patch.{Patch}
 use Rattle.amr_patch.specs.Places.{is_edge_face}
 use Rattle.amr_patch.specs.Patches.{SameMarks, SameValues, box, flux_in, mass_in, value_in}
 use Rattle.amr_faces.specs.Faces.{IsInDomain, flux_beside, in_reach}
-use Rattle.amr_flux.specs.Sides.{includes, side_of}
-use Rattle.amr_flux.specs.declared.fluxes.Sides.{Sides}
+use Rattle.amr_flux.specs.PatchSides.{includes, side_of}
+use Rattle.amr_flux.specs.declared.fluxes.PatchSides.{PatchSides}
 use Rattle.amr_layout.specs.declared.FlowTo.{FlowTo}
 use Rattle.amr_layout.specs.Adds.{word_total}
 
@@ -76,20 +76,20 @@ pub record AreReady (p : Problem) (l columns many : ℕ) (qs : List Patch) (xss 
 -- ---- sides
 
 -- a patch whose fluxes through the faces on these sides are worked out, by its values. Its values and marks stay.
-pub record IsSweptOn (p : Problem) (l : ℕ) (s : Sides) (q r : Patch) : Type 0 where
+pub record IsSweptOn (p : Problem) (l : ℕ) (s : PatchSides) (q r : Patch) : Type 0 where
   pub of_box : box r ≡ box q
   pub values : SameValues q r
   pub marks : SameMarks q r
   pub fluxes : (f : Face) → IsTrue (is_edge_face (box q) f) → includes s (side_of (box q) f) ≡ true → flux_in r f ≡ flux_beside p l q f
 
 -- faces on these sides of a box
-abbrev pub LieOn : Sides → Extent → List FlowTo → Type 0
+abbrev pub LieOn : PatchSides → Extent → List FlowTo → Type 0
 LieOn s b = All (λ (x : FlowTo). includes s (side_of b x.face) ≡ true)
 
 -- ---- what a patch adds
 
 -- flows of a patch, which lie on these sides, may be added to totals of words
-pub record CanAdd (p : Problem) (l : ℕ) (q : Patch) (flows : List FlowTo) (s : Sides) (totals : List ℕ) : Type 0 where
+pub record CanAdd (p : Problem) (l : ℕ) (q : Patch) (flows : List FlowTo) (s : PatchSides) (totals : List ℕ) : Type 0 where
   pub edges : AreEdgeFlows q flows
   pub lie : LieOn s (box q) flows
   pub words : All (λ (x : FlowTo). x.word < length totals) flows

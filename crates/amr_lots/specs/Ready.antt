@@ -15,13 +15,13 @@ use Rattle.amr_patch.specs.Patches.{box, mass_in}
 use Rattle.amr_faces.specs.Faces.{IsInDomain, ShowsValues}
 use Rattle.amr_faces.specs.Faces.{masked_faces}
 use Rattle.amr_flux.specs.Rooms.{widest}
-use Rattle.amr_flux.specs.Sides.{includes, side_of}
-use Rattle.amr_flux.specs.declared.fluxes.Sides.{Sides}
+use Rattle.amr_flux.specs.PatchSides.{includes, side_of}
+use Rattle.amr_flux.specs.declared.fluxes.PatchSides.{PatchSides}
 use Rattle.amr_ghost.specs.declared.outer.OuterGhosts.{OuterGhosts}
 use Rattle.amr_phase.specs.Plans.{PlanOf, planned_face}
 use Rattle.amr_board.specs.Ended.{EndedOf, face_of}
 use Rattle.amr_layout.specs.declared.FlowTo.{FlowTo}
-use Rattle.amr_layout.specs.declared.alone.LevelFlows.{LevelFlows}
+use Rattle.amr_layout.specs.declared.level_flows.LevelFlows.{LevelFlows}
 use Rattle.amr_layout.specs.declared.PatchLayout.{PatchLayout}
 use Rattle.amr_layout.specs.declared.PutAt.{PutAt}
 use Rattle.amr_layout.specs.LevelFlowLists.{HasFlowsAt, flow_lists, flows_at}
@@ -44,10 +44,10 @@ abbrev pub HasEdges : List Patch → List (Vec EdgeCell) → Type 0
 HasEdges qs edges = 0 < length edges → AllZip AreEdgesIn (map box qs) (lists_of edges)
 
 -- these are the flows of each patch, and the sides that they lie on
-pub record HasFlowsIn (v : LevelFlows) (sides : List Sides) (qs : List Patch) : Type 0 where
+pub record HasFlowsIn (v : LevelFlows) (sides : List PatchSides) (qs : List Patch) : Type 0 where
   pub there : (k : ℕ) → k < length qs → HasFlowsAt v k
   pub count : length sides ≡ length qs
-  pub lie : (k : ℕ) (q : Patch) (d : Sides) → k < length qs → LieOn (slice_index_or sides k d) (box (slice_index_or qs k q)) (flows_at v k)
+  pub lie : (k : ℕ) (q : Patch) (d : PatchSides) → k < length qs → LieOn (slice_index_or sides k d) (box (slice_index_or qs k q)) (flows_at v k)
 
 -- patches of level l whose frames can be filled by a workspace, and which may then make their step
 pub record CanStep (p : Problem) (l : ℕ) (qs : List Patch) (edges : List (Vec EdgeCell)) (s : Workspace) : Type 0 where
@@ -61,7 +61,7 @@ pub record CanStep (p : Problem) (l : ℕ) (qs : List Patch) (edges : List (Vec 
 -- ---- what is put and read
 
 -- puts of what flows through faces on the edges of a box, on these sides
-abbrev pub ArePutsOn : Sides → Extent → List PutAt → Type 0
+abbrev pub ArePutsOn : PatchSides → Extent → List PutAt → Type 0
 ArePutsOn s b = All (λ (x : PutAt). IsTrue (is_edge_face b x.face) × (includes s (side_of b x.face) ≡ true))
 
 -- a patch with this box reads a place for each face that its mask tells. There stands the size of what flows through that face, and 1.
@@ -81,7 +81,7 @@ pub record ServesLot (s : Workspace) (qs : List Patch) : Type 0 where
   pub room : All (λ q. width (box q) ≤ widest s.room) qs
   pub flows : HasFlowsIn s.flows s.sides.items qs
   pub to_words : (k : ℕ) → k < length qs → All (λ (x : FlowTo). x.word < length s.words.items) (flows_at s.flows k)
-  pub puts : (k : ℕ) (q : Patch) (t : PatchLayout) (d : Sides) → k < length qs
+  pub puts : (k : ℕ) (q : Patch) (t : PatchLayout) (d : PatchSides) → k < length qs
       → ArePutsOn (slice_index_or s.sides.items k d) (box (slice_index_or qs k q)) (slice_index_or s.layouts.items k t).puts.items
 
 -- a piece whose lot may make its step, beside others whose puts are planned

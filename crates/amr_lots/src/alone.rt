@@ -12,7 +12,7 @@ use crate::frames::begin;
 use crate::lot::Workspace;
 use crate::patches::step_patch;
 use amr_def::Problem;
-use amr_flux::{Room, Sides};
+use amr_flux::{PatchSides, Room};
 use amr_layout::LevelFlows;
 use amr_patch::Patch;
 use amr_register::EdgeCell;
@@ -24,7 +24,7 @@ fn step_patches(
     l: u32,
     patches: &mut [Patch],
     flows: &LevelFlows,
-    sides: &[Sides],
+    sides: &[PatchSides],
     room: &mut Room,
     totals: &mut [u64],
 )

@@ -6,7 +6,7 @@ ghost use Rattle.amr_lots.specs.declared.lot.LotStage.TheVariants.{Finished};
 
 use amr_board::Piece;
 use amr_def::Problem;
-use amr_flux::{Room, Sides};
+use amr_flux::{PatchSides, Room};
 use amr_ghost::{FrameCopy, Message, OuterGhosts};
 use amr_layout::{LevelFlows, PatchLayout};
 use amr_patch::{Level, Order, Patch};
@@ -38,7 +38,7 @@ pub struct Workspace {
     /// `words`, or by its number where the lot is all of its level.
     pub flows: LevelFlows,
     /// The sides of each patch on which faces lie whose fluxes are put or added.
-    pub sides: Vec<Sides>,
+    pub sides: Vec<PatchSides>,
     /// The words of the level that the flows go to; none where the lot is all of its level.
     pub words: Vec<u32>,
     /// What flows to each of these words, all patches together.

@@ -7,22 +7,22 @@ ghost use Rattle.amr_box.specs.Cells.{width};
 ghost use Rattle.amr_patch.specs.Places.{is_edge_face};
 ghost use Rattle.amr_patch.specs.Patches.{box, flux_in};
 ghost use Rattle.amr_flux.specs.Rooms.{widest};
-ghost use Rattle.amr_flux.specs.Sides.{includes, side_of};
+ghost use Rattle.amr_flux.specs.PatchSides.{includes, side_of};
 ghost use Rattle.amr_layout.specs.Adds.{word_total};
 ghost use Rattle.amr_lots.specs.Lots.{CanAdd, HasAdded, HasStepped, IsSweptOn, LieOn, MayStep};
 
 use amr_box::Bx;
 use amr_def::Problem;
-use amr_flux::{Room, Sides, sweep, update_alone};
+use amr_flux::{PatchSides, Room, sweep, update_alone};
 use amr_layout::{FlowTo, PutAt};
 use amr_patch::Patch;
 
 /// The sides on which faces on the edges of a box lie whose fluxes are put or added.
-pub fn sides_of(b: &Bx, flows: &[FlowTo], puts: &[PutAt]) -> Sides
+pub fn sides_of(b: &Bx, flows: &[FlowTo], puts: &[PutAt]) -> PatchSides
     ensures flows { LieOn result b.now flows.now }
     ensures puts { All (λ x. includes result (side_of b.now x.face) ≡ true) puts.now }
 {
-    let mut sides = Sides::none();
+    let mut sides = PatchSides::none();
     for flow in flows {
         sides = sides.with(b, flow.face);
     }
@@ -53,7 +53,7 @@ pub(crate) fn sweep_patch(
     l: u32,
     patch: &mut Patch,
     flows: &[FlowTo],
-    sides: Sides,
+    sides: PatchSides,
     room: &mut Room,
     totals: &mut [u64],
 )
@@ -77,7 +77,7 @@ pub(crate) fn step_patch(
     l: u32,
     patch: &mut Patch,
     flows: &[FlowTo],
-    sides: Sides,
+    sides: PatchSides,
     room: &mut Room,
     totals: &mut [u64],
 )

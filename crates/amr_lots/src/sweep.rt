@@ -24,7 +24,7 @@ use crate::lot::{Lot, LotStage, Work, Workspace};
 use crate::patches::sweep_patch;
 use amr_board::{Board, Seat};
 use amr_def::Problem;
-use amr_flux::{Room, Sides, update_alone};
+use amr_flux::{PatchSides, Room, update_alone};
 use amr_layout::{LevelFlows, PatchLayout, PutAt};
 use amr_patch::Patch;
 use amr_register::EdgeCell;
@@ -36,7 +36,7 @@ fn sweep_patches(
     l: u32,
     patches: &mut [Patch],
     flows: &LevelFlows,
-    sides: &[Sides],
+    sides: &[PatchSides],
     room: &mut Room,
     totals: &mut [u64],
 )

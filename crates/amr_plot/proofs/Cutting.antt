@@ -11,7 +11,7 @@ use Rattle.amr_plot.specs.BoxParts.{part_text, some_rows}
 use Rattle.amr_plot.specs.declared.layer.Layer.{Layer}
 use Rattle.amr_plot.specs.declared.parts.Part.{Part}
 use Rattle.amr_plot.specs.declared.parts.Part.TheVariants.{Line, Rows}
-use Rattle.amr_plot.specs.Layers.{masses_in}
+use Rattle.amr_plot.specs.Layers.{layer_masses}
 use Rattle.amr_plot.proofs.Putting.{range_texts, texts_more, texts_of_range}
 use Rattle.amr_plot.proofs.TextLaws.{one_more}
 
@@ -23,7 +23,7 @@ first_rows f a n = (λ i. texts_of_range f a i ++ range_texts f a n i) ∙ sym (
 
 module _ (k : Layer) (b : Extent) (s : ℕ) where
   abbrev masses : Masses
-  masses = slice_index_or (masses_in k) s no_masses
+  masses = slice_index_or (layer_masses k) s no_masses
 
   -- the first n rows with what stands before them, once there is one
   abbrev pub first_text : ℕ → List ℕ

@@ -16,7 +16,7 @@ use Rattle.amr_patch.specs.Meshes.{state_of}
 use Rattle.amr_patch.proofs.BoxEntries.{in_some, no_box}
 use Rattle.amr_patch.proofs.Corners.{corners}
 use Rattle.amr_plot.specs.declared.layer.Layer.{Layer}
-use Rattle.amr_plot.specs.Layers.{IsBoxOf, IsLayer, boxes_in, levels_in, masses_in}
+use Rattle.amr_plot.specs.Layers.{IsLayerBox, IsLayer, layer_boxes, levels_in, layer_masses}
 
 module _ (k : Layer) (is : IsLayer k) where
   abbrev states : List defined.State
@@ -56,30 +56,30 @@ module _ (k : Layer) (is : IsLayer k) where
   boxes_at : (t : defined.State) → k.l < length t.levels → (defined.level_at t k.l).boxes ≡ get_or (all_boxes t) k.l (defined.no_level).boxes
   boxes_at t below = sym (get_or-map (λ (j : defined.Level). j.boxes) t.levels k.l defined.no_level (defined.no_level).boxes below)
 
-  pub level_boxes : (s : ℕ) → s < length k.meshes.now → (get_or (levels_in k) s defined.no_level).boxes ≡ boxes_in k
+  pub level_boxes : (s : ℕ) → s < length k.meshes.now → (get_or (levels_in k) s defined.no_level).boxes ≡ layer_boxes k
   level_boxes s below =
       let first = is.plotted.some in
       let one = ap (λ (j : defined.Level). j.boxes) (level_is s below) ∙ boxes_at (state s) (level_there s below) in
       let two = ap (λ (j : defined.Level). j.boxes) (level_is 0 first) ∙ boxes_at (state 0) (level_there 0 first) in
       one ∙ ap (λ (bs : List (List Extent)). get_or bs k.l (defined.no_level).boxes) (same_boxes s below) ∙ sym two
 
-  pub masses_are : (s : ℕ) → s < length k.meshes.now → get_or (masses_in k) s defined.no_masses ≡ (get_or (levels_in k) s defined.no_level).masses
+  pub masses_are : (s : ℕ) → s < length k.meshes.now → get_or (layer_masses k) s defined.no_masses ≡ (get_or (levels_in k) s defined.no_level).masses
   masses_are s below =
       get_or-map (λ (j : defined.Level). j.masses) (levels_in k) s defined.no_level defined.no_masses
       (omega (arith, below, count, length-map states (λ (t : defined.State). defined.level_at t k.l)))
 
   -- each of the boxes lies in the domain
-  pub each_box : All (IsBoxOf k) (boxes_in k)
+  pub each_box : All (IsLayerBox k) (layer_boxes k)
   each_box i d below =
       let sound_level = level_sound 0 is.plotted.some in
-      let inside : (c : Cell) → holds (get_or (boxes_in k) i no_box) c ≡ true → in_domain (domain k.problem.now k.l) c ≡ true =
-      λ c held. sound_level.inside c (in_some (boxes_in k) i c below held) in
-      subst (λ (b : Extent). IsBoxOf k b) (get_or_default (boxes_in k) i no_box d below) (record {
+      let inside : (c : Cell) → holds (get_or (layer_boxes k) i no_box) c ≡ true → in_domain (domain k.problem.now k.l) c ≡ true =
+      λ c held. sound_level.inside c (in_some (layer_boxes k) i c below held) in
+      subst (λ (b : Extent). IsLayerBox k b) (get_or_default (layer_boxes k) i no_box d below) (record {
         near = (corners k.problem.now k.l _ fine (sound_level.proper i no_box below) inside).near;
         inside = inside;
-        among = λ c held. in_some (boxes_in k) i c below held;
+        among = λ c held. in_some (layer_boxes k) i c below held;
       })
 
 -- a box's cells are those of a level that has it
-pub box_cells : (k : Layer) (b : Extent) (level : Level) → IsBoxOf k b → IsLevel k.problem.now k.l (level_of level) → (level_of level).boxes ≡ boxes_in k → HasCellsOf level b
+pub box_cells : (k : Layer) (b : Extent) (level : Level) → IsLayerBox k b → IsLevel k.problem.now k.l (level_of level) → (level_of level).boxes ≡ layer_boxes k → HasCellsOf level b
 box_cells k b level of is same = record { at = λ c held. is.filled c ∙ ap (λ (bs : List Extent). in_boxes bs c) same ∙ of.among c held }

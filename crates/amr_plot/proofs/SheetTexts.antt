@@ -5,7 +5,7 @@ use Rattle.amr_causes.specs.Bytes.{Grows, TakesPrefix}
 use Rattle.amr_causes.proofs.ByteLaws.{grows_to, takes_whole}
 use Rattle.amr_causes.proofs.CauseLaws.{rose_after}
 use Rattle.amr_causes.specs.Causes.{HasCause}
-use Rattle.amr_io.specs.Kept.{Sent}
+use Rattle.amr_io.specs.Buffered.{Sent}
 use Rattle.amr_io.proofs.Sending.{all_sent, sent_then}
 use Rattle.amr_io.proofs.Shorter.{flush_short, short_takes}
 use Rattle.amr_io.specs.Short.{FallsShort}

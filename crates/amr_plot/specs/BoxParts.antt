@@ -4,7 +4,7 @@ use Rattle.std.specs.List.{flat_map, range_with_len}
 use Rattle.amr_box.specs.Cells.{Extent, height}
 use Rattle.amr_def.specs.Plot.{box_line, mass_line, names_species, species_line}
 use Rattle.amr_def.specs.State.{no_masses}
-use Rattle.amr_plot.specs.Layers.{IsBoxOf, masses_in}
+use Rattle.amr_plot.specs.Layers.{IsLayerBox, layer_masses}
 use Rattle.amr_plot.specs.declared.layer.Layer.{Layer}
 use Rattle.amr_plot.specs.declared.parts.Part.{Part}
 use Rattle.amr_plot.specs.declared.parts.Part.TheVariants.{Line, Rows}
@@ -13,7 +13,7 @@ use Rattle.amr_plot.specs.declared.parts.Part.TheVariants.{Line, Rows}
 unfoldable pub some_rows : Layer → Extent → ℕ → ℕ → ℕ → List ℕ
 some_rows k b s first count =
     cond (first == 0) (species_line (names_species k.problem.now) s) []
-    ++ flat_map (mass_line (slice_index_or (masses_in k) s no_masses) b) (range_with_len first count)
+    ++ flat_map (mass_line (slice_index_or (layer_masses k) s no_masses) b) (range_with_len first count)
 
 abbrev pub part_text : Layer → Part → List ℕ
 part_text k (Line b) = box_line b
@@ -21,5 +21,5 @@ part_text k (Rows b s first count) = some_rows k b s first count
 
 -- a part of a box of the layer, whose rows are the box's
 abbrev pub IsPartOf : Layer → Part → Type 0
-IsPartOf k (Line b) = IsBoxOf k b
-IsPartOf k (Rows b s first count) = IsBoxOf k b × (s < length k.meshes.now) × (first + count ≤ height b)
+IsPartOf k (Line b) = IsLayerBox k b
+IsPartOf k (Rows b s first count) = IsLayerBox k b × (s < length k.meshes.now) × (first + count ≤ height b)

@@ -26,18 +26,18 @@ pub record IsLayer (k : Layer) : Type 0 where
 abbrev pub levels_in : Layer → List defined.Level
 levels_in k = map (λ s. defined.level_at s k.l) (map state_of k.meshes.now)
 
-abbrev pub masses_in : Layer → List defined.Masses
-masses_in k = map (λ level. level.masses) (levels_in k)
+abbrev pub layer_masses : Layer → List defined.Masses
+layer_masses k = map (λ level. level.masses) (levels_in k)
 
-abbrev pub boxes_in : Layer → List Extent
-boxes_in k = (slice_index_or (levels_in k) 0 defined.no_level).boxes
+abbrev pub layer_boxes : Layer → List Extent
+layer_boxes k = (slice_index_or (levels_in k) 0 defined.no_level).boxes
 
 -- the texts of boxes, one after the other
 abbrev pub boxes_text : Layer → List Extent → List ℕ
-boxes_text k bs = flat_map (box_text (names_species k.problem.now) (masses_in k)) bs
+boxes_text k bs = flat_map (box_text (names_species k.problem.now) (layer_masses k)) bs
 
 -- the box lies in the domain of the level, among its boxes
-pub record IsBoxOf (k : Layer) (b : Extent) : Type 0 where
+pub record IsLayerBox (k : Layer) (b : Extent) : Type 0 where
   pub near : IsNear b
   pub inside : (c : Cell) → IsTrue (holds b c) → IsTrue (in_domain (domain k.problem.now k.l) c)
-  pub among : (c : Cell) → IsTrue (holds b c) → IsTrue (in_boxes (boxes_in k) c)
+  pub among : (c : Cell) → IsTrue (holds b c) → IsTrue (in_boxes (layer_boxes k) c)

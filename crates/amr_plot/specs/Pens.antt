@@ -1,7 +1,7 @@
 -- Texts that are taken in turn.
 use Rattle.std.specs.Prelude.{◌≡◌, ℕ, ◌≤◌, List, [], ◌++◌, Result, OnOk, OnErr}
 use Rattle.amr_causes.specs.Causes.{Rose}
-use Rattle.amr_io.specs.Kept.{Sent}
+use Rattle.amr_io.specs.Buffered.{Sent}
 use Rattle.amr_io.specs.Short.{FallsShort}
 
 -- the text was taken, or not all of it

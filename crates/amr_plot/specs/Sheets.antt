@@ -2,7 +2,7 @@
 use Rattle.std.proofs.Common.{◌≡◌, ℕ, ◌≤◌, List, [], ◌++◌, subst, sym, ◌∙◌, append_assoc, append-nil, arith}
 use Rattle.amr_causes.specs.Causes.{Rose}
 use Rattle.amr_causes.proofs.CauseLaws.{rose_after}
-use Rattle.amr_io.specs.Kept.{Sent}
+use Rattle.amr_io.specs.Buffered.{Sent}
 use Rattle.amr_io.proofs.Sending.{sent_then}
 use Rattle.amr_io.specs.Short.{FallsShort}
 use Rattle.amr_io.proofs.Shorter.{sent_short, short_longer}

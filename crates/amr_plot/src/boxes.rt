@@ -5,7 +5,7 @@ ghost use Rattle.std.specs.List.{All};
 ghost use Rattle.amr_box.specs.Cells.{height};
 ghost use Rattle.amr_def.specs.Plot.{box_text, names_species, species_line};
 ghost use Rattle.amr_plot.specs.BoxParts.{some_rows};
-ghost use Rattle.amr_plot.specs.Layers.{boxes_text, masses_in, IsBoxOf, IsLayer};
+ghost use Rattle.amr_plot.specs.Layers.{boxes_text, layer_masses, IsLayerBox, IsLayer};
 ghost use Rattle.amr_plot.specs.Pens.{Puts};
 
 use crate::layer::Layer;
@@ -39,7 +39,7 @@ pub(crate) fn put_some_rows<P: Pen>(
     pen: &mut P,
 ) -> Result<(), P::Fault>
     requires layer { IsLayer layer }
-    requires of_layer { IsBoxOf layer b.now }
+    requires of_layer { IsLayerBox layer b.now }
     requires there { species < length layer.meshes.now }
     requires within { first + count ≤ height b.now }
     ensures { Puts P.wrote P.failed pen.old pen.new (some_rows layer.entry b.now species first count) result }
@@ -51,8 +51,8 @@ pub(crate) fn put_some_rows<P: Pen>(
 /// A box and its rows.
 fn put_box<P: Pen>(layer: Layer<'_>, b: &Bx, pen: &mut P) -> Result<(), P::Fault>
     requires layer { IsLayer layer }
-    requires of_layer { IsBoxOf layer b.now }
-    ensures { Puts P.wrote P.failed pen.old pen.new (box_text (names_species layer.entry.problem.now) (masses_in layer.entry) b.now) result }
+    requires of_layer { IsLayerBox layer b.now }
+    ensures { Puts P.wrote P.failed pen.old pen.new (box_text (names_species layer.entry.problem.now) (layer_masses layer.entry) b.now) result }
 {
     pen.put_fragments(&box_row(layer, b))?;
     let height = b.height();
@@ -65,7 +65,7 @@ fn put_box<P: Pen>(layer: Layer<'_>, b: &Bx, pen: &mut P) -> Result<(), P::Fault
 /// Boxes of a level, in order.
 pub(crate) fn put_boxes<P: Pen>(layer: Layer<'_>, boxes: &[Bx], pen: &mut P) -> Result<(), P::Fault>
     requires layer { IsLayer layer }
-    requires of_layer { All (IsBoxOf layer) boxes.now }
+    requires of_layer { All (IsLayerBox layer) boxes.now }
     ensures { Puts P.wrote P.failed pen.old pen.new (boxes_text layer.entry boxes.now) result }
 {
     for b in boxes {

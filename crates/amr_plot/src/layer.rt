@@ -5,7 +5,7 @@ ghost use Rattle.amr_def.specs.Facts.{IsLevel};
 ghost use Rattle.amr_def.specs.Plot.{names_species};
 ghost use Rattle.amr_def.specs.State.{no_level};
 ghost use Rattle.amr_patch.specs.Levels.{level_of};
-ghost use Rattle.amr_plot.specs.Layers.{IsLayer, boxes_in, levels_in};
+ghost use Rattle.amr_plot.specs.Layers.{IsLayer, layer_boxes, levels_in};
 
 use amr_box::Bx;
 use amr_def::Problem;
@@ -26,7 +26,7 @@ impl<'a> Layer<'a> {
         requires there { species < length self.meshes.now }
         ensures level { level_of result.now ≡ slice_index_or (levels_in self.entry) species no_level }
         ensures sound { IsLevel self.entry.problem.now self.entry.l (level_of result.now) }
-        ensures boxes { (level_of result.now).boxes ≡ boxes_in self.entry }
+        ensures boxes { (level_of result.now).boxes ≡ layer_boxes self.entry }
     {
         &self.meshes[species].levels()[self.l as usize]
     }
@@ -34,7 +34,7 @@ impl<'a> Layer<'a> {
     /// The boxes that the levels have, in order.
     pub(crate) fn boxes(self) -> &'a [Bx]
         requires { IsLayer self }
-        ensures { result.now ≡ boxes_in self.entry }
+        ensures { result.now ≡ layer_boxes self.entry }
     {
         self.level(0).boxes()
     }

@@ -5,7 +5,7 @@ ghost use Rattle.amr_def.specs.Plot.{level_text, names_species, numbered};
 ghost use Rattle.amr_def.specs.Species.{by_place, first_state};
 ghost use Rattle.amr_def.specs.State.{level_at};
 ghost use Rattle.amr_patch.specs.Meshes.{state_of};
-ghost use Rattle.amr_plot.specs.Layers.{boxes_in, boxes_text, levels_in, ArePlotted, IsLayer};
+ghost use Rattle.amr_plot.specs.Layers.{layer_boxes, boxes_text, levels_in, ArePlotted, IsLayer};
 ghost use Rattle.amr_plot.specs.Pens.{Puts};
 ghost use Rattle.amr_plot.specs.Texts.{joined};
 
@@ -35,7 +35,7 @@ fn put_level_boxes<S: TextMaker, P: Pen>(
 ) -> Result<(), P::Fault>
     requires shared { S.may_share maker.now }
     requires layer { IsLayer layer }
-    ensures { Puts P.wrote P.failed pen.old pen.new (boxes_text layer.entry (boxes_in layer.entry)) result }
+    ensures { Puts P.wrote P.failed pen.old pen.new (boxes_text layer.entry (layer_boxes layer.entry)) result }
 {
     match maker.made_before(layer) {
         Some(texts) => put_texts(&texts, pen),

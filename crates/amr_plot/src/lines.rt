@@ -2,8 +2,8 @@
 
 ghost use Rattle.std.specs.Prelude.{◌≡◌, ◌≤ℤ◌, pos, true};
 ghost use Rattle.amr_def.specs.Plot.{box_line, head_text, ledger_line, species_line};
-ghost use Rattle.amr_io.specs.Kept.{fragments_text};
-ghost use Rattle.amr_plot.specs.Layers.{IsBoxOf, IsLayer};
+ghost use Rattle.amr_io.specs.Buffered.{fragments_text};
+ghost use Rattle.amr_plot.specs.Layers.{IsLayerBox, IsLayer};
 ghost use Rattle.amr_plot.specs.Texts.{level_head};
 
 use crate::layer::Layer;
@@ -91,7 +91,7 @@ fn number(z: i32) -> u64
 /// The line of a box of a level, in the domain.
 pub(crate) fn box_row(layer: Layer<'_>, b: &Bx) -> [Fragment<'static>; 9]
     requires layer { IsLayer layer }
-    requires of_layer { IsBoxOf layer b.now }
+    requires of_layer { IsLayerBox layer b.now }
     ensures { fragments_text result ≡ box_line b.now }
 {
     let lo = b.lo();

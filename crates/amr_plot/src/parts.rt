@@ -5,7 +5,7 @@ ghost use Rattle.std.specs.List.{All, flat_map};
 ghost use Rattle.amr_def.specs.Plot.{box_text, names_species, rows_text};
 ghost use Rattle.amr_def.specs.State.{no_masses};
 ghost use Rattle.amr_plot.specs.BoxParts.{IsPartOf, part_text};
-ghost use Rattle.amr_plot.specs.Layers.{boxes_text, masses_in, IsBoxOf, IsLayer};
+ghost use Rattle.amr_plot.specs.Layers.{boxes_text, layer_masses, IsLayerBox, IsLayer};
 ghost use Rattle.amr_plot.specs.Pens.{Puts};
 
 use crate::boxes::put_some_rows;
@@ -34,11 +34,11 @@ fn append_rows(
     b: &Bx,
     species: usize,
 ) -> Result<(), NoMemory>
-    requires of_layer { IsBoxOf layer b.now }
+    requires of_layer { IsLayerBox layer b.now }
     requires there { species < length layer.meshes.now }
     requires old { All (IsPartOf layer) parts.old.items }
     ensures texts { OnOk result (flat_map (part_text layer.entry) parts.new.items ≡ flat_map (part_text layer.entry) parts.old.items
-        ++ rows_text (names_species layer.entry.problem.now) b.now species (slice_index_or (masses_in layer.entry) species no_masses)) }
+        ++ rows_text (names_species layer.entry.problem.now) b.now species (slice_index_or (layer_masses layer.entry) species no_masses)) }
     ensures of_layer { OnOk result (All (IsPartOf layer.entry) parts.new.items) }
 {
     let most = (CELLS / b.width()).max(1);
@@ -54,10 +54,10 @@ fn append_rows(
 
 /// Puts the parts of a box behind those that are there.
 fn append_parts(parts: &mut Vec<Part>, layer: Layer<'_>, b: &Bx) -> Result<(), NoMemory>
-    requires of_layer { IsBoxOf layer b.now }
+    requires of_layer { IsLayerBox layer b.now }
     requires old { All (IsPartOf layer) parts.old.items }
     ensures texts { OnOk result (flat_map (part_text layer.entry) parts.new.items
-        ≡ flat_map (part_text layer.entry) parts.old.items ++ box_text (names_species layer.entry.problem.now) (masses_in layer.entry) b.now) }
+        ≡ flat_map (part_text layer.entry) parts.old.items ++ box_text (names_species layer.entry.problem.now) (layer_masses layer.entry) b.now) }
     ensures of_layer { OnOk result (All (IsPartOf layer.entry) parts.new.items) }
 {
     parts.push(Part::Line(*b))?;
@@ -69,7 +69,7 @@ fn append_parts(parts: &mut Vec<Part>, layer: Layer<'_>, b: &Bx) -> Result<(), N
 
 /// The parts of boxes, in order.
 pub(crate) fn parts_of(alloc: Global, layer: Layer<'_>, boxes: &[Bx]) -> Result<Vec<Part>, NoMemory>
-    requires of_layer { All (IsBoxOf layer) boxes.now }
+    requires of_layer { All (IsLayerBox layer) boxes.now }
     ensures texts { IfOk result (λ v. flat_map (part_text layer.entry) v.items ≡ boxes_text layer.entry boxes.now) }
     ensures of_layer { IfOk result (λ v. All (IsPartOf layer.entry) v.items) }
 {

@@ -1,7 +1,7 @@
 //! Who takes the bytes of a plot in turn: a stream, or a count of them.
 
 ghost use Rattle.std.specs.Prelude.{ℕ, List};
-ghost use Rattle.amr_io.specs.Kept.{entry_text, fragments_text};
+ghost use Rattle.amr_io.specs.Buffered.{entry_text, fragments_text};
 ghost use Rattle.amr_plot.specs.Pens.{IsPen, Puts};
 
 use amr_io::{CountSink, Fragment, Sink, Text, WriteFault, write_whole};

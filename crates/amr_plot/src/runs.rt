@@ -3,7 +3,7 @@
 ghost use Rattle.std.specs.Prelude.{◌≡◌, ℕ, ◌*◌, ◌<◌, List, length, take, IfOk};
 ghost use Rattle.std.specs.List.{All, flat_map};
 ghost use Rattle.amr_plot.specs.BoxParts.{IsPartOf, part_text};
-ghost use Rattle.amr_plot.specs.Layers.{boxes_in, boxes_text, IsLayer};
+ghost use Rattle.amr_plot.specs.Layers.{layer_boxes, boxes_text, IsLayer};
 ghost use Rattle.amr_plot.specs.Texts.{AreTextsOfRuns, joined};
 ghost use Rattle.amr_plot.specs.declared.parts.Part.{Part};
 
@@ -58,7 +58,7 @@ pub(crate) fn texts_by_runs<R: Threads + Sync>(
 ) -> Result<Vec<Vec<u8>>, NoMemory>
     requires some { 0 < threads }
     requires layer { IsLayer layer }
-    ensures { IfOk result (λ v. joined v.items ≡ boxes_text layer.entry (boxes_in layer.entry)) }
+    ensures { IfOk result (λ v. joined v.items ≡ boxes_text layer.entry (layer_boxes layer.entry)) }
 {
     let parts = parts_of(alloc, layer, layer.boxes())?;
     let size = parts.len().div_ceil(threads).max(1);

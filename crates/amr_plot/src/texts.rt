@@ -1,7 +1,7 @@
 //! Who makes the texts of a level's boxes: the caller alone, or several threads before they are put.
 
 ghost use Rattle.std.specs.Prelude.{◌≡◌, IfSome};
-ghost use Rattle.amr_plot.specs.Layers.{boxes_in, boxes_text, IsLayer};
+ghost use Rattle.amr_plot.specs.Layers.{layer_boxes, boxes_text, IsLayer};
 ghost use Rattle.amr_plot.specs.Texts.{joined};
 
 use crate::layer::Layer;
@@ -25,7 +25,7 @@ pub(crate) trait TextMaker {
     fn made_before(&self, layer: Layer<'_>) -> Option<Vec<Vec<u8>>>
         requires shared { may_share self.now }
         requires layer { IsLayer layer }
-        ensures { IfSome result (λ v. joined v.items ≡ boxes_text layer.entry (boxes_in layer.entry)) };
+        ensures { IfSome result (λ v. joined v.items ≡ boxes_text layer.entry (layer_boxes layer.entry)) };
 }
 
 /// The calling thread puts all boxes, and takes no memory.

@@ -10,8 +10,8 @@ use Rattle.amr_ranks.specs.Items.{count_at, has_word, times}
 use Rattle.amr_ranks.specs.Letters.{LetterOf, IsNet, letter_at, letters_to, numbers_of, cells_of, shares_of}
 use Rattle.amr_ranks.specs.Nodes.{NodeOf, fresh_node}
 use Rattle.amr_ranks.proofs.Chosen.{number_once}
-use Rattle.amr_post.specs.declared.post.Post.{Post}
-use Rattle.amr_post.specs.Letters.{AreSame, Expects, IsPost, MayDeliver, letters_in}
+use Rattle.amr_post.specs.declared.post.RankChannel.{RankChannel}
+use Rattle.amr_post.specs.Letters.{AreSame, Expects, IsRankChannel, MayDeliver, letters_in}
 
 all_to : (rank : ℕ) (ls : List LetterOf) → All (λ (l : LetterOf). l.to ≡ rank) ls → letters_to rank ls ≡ ls
 all_to rank [] own = refl
@@ -40,5 +40,5 @@ module _ (rank words cells : ℕ) (ls : List LetterOf) (own : All (λ (l : Lette
     cells_fit = subst (λ (xs : List LetterOf). length (cells_of xs) ≤ cells) same (net.cells_fit rank);
   }
 
-  pub may_deliver : (p : Post) (n : NodeOf) → IsPost p → AreSame (letters_in p.parcels.items) ls → n ≡ fresh_node rank (numbers_of ls) words cells → MayDeliver p n
+  pub may_deliver : (p : RankChannel) (n : NodeOf) → IsRankChannel p → AreSame (letters_in p.parcels.items) ls → n ≡ fresh_node rank (numbers_of ls) words cells → MayDeliver p n
   may_deliver p n post alike is = record { post = post; letters = ls; same = alike; expects = subst (λ (d : NodeOf). Expects d ls) (sym is) expected }

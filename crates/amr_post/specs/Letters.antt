@@ -9,7 +9,7 @@ use Rattle.amr_ranks.specs.Letters.{LetterOf, numbers_of, cells_of, shares_of}
 use Rattle.amr_ranks.specs.Laws.{HasJust}
 use Rattle.amr_ranks.specs.Nodes.{NodeOf, fresh_node, is_ready}
 use Rattle.amr_post.specs.declared.post.Parcel.{Parcel}
-use Rattle.amr_post.specs.declared.post.Post.{Post}
+use Rattle.amr_post.specs.declared.post.RankChannel.{RankChannel}
 use Rattle.amr_post.specs.Rounds.{hand, rooms}
 
 -- the same letters, in whatever order: they weigh the same, however they are weighed
@@ -32,7 +32,7 @@ pub record IsParcel (q : Parcel) : Type 0 where
   pub none_got : (view q.pass).got ≡ []
 
 -- the ends are a channel's, and nothing but the parcels' letters was sent
-pub record IsPost (p : Post) : Type 0 where
+pub record IsRankChannel (p : RankChannel) : Type 0 where
   pub capacity : ruled_capacity (sends_on p.outlet) ≡ 9
   pub channel : receives_on p.inlet ≡ sends_on p.outlet
   pub seat : IsSeatAt (sends_on p.outlet) p.pass
@@ -65,8 +65,8 @@ pub record IsUnderWay (first : NodeOf) (all rest sent got : List LetterOf) (n : 
   pub letters : (weight : LetterOf → ℕ) → total weight taken + total weight sent + total weight rest ≡ total weight got + total weight all
 
 -- the letters of a post may go to this node
-pub record MayDeliver (p : Post) (n : NodeOf) : Type 0 where
-  pub post : IsPost p
+pub record MayDeliver (p : RankChannel) (n : NodeOf) : Type 0 where
+  pub post : IsRankChannel p
   pub letters : List LetterOf
   pub same : AreSame (letters_in p.parcels.items) letters
   pub expects : Expects n letters
@@ -79,7 +79,7 @@ pub record IsSameNode (old new : NodeOf) : Type 0 where
   pub words : length new.totals ≡ length old.totals
 
 -- they went: it has just these, all of them
-pub record HasDelivered (p : Post) (old new : NodeOf) : Type 0 where
+pub record HasDelivered (p : RankChannel) (old new : NodeOf) : Type 0 where
   pub stays : IsSameNode old new
   pub ready : is_ready new ≡ true
   pub just : (letters : List LetterOf) → AreSame (letters_in p.parcels.items) letters → HasJust new (length old.totals) letters

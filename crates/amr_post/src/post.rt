@@ -27,7 +27,7 @@ pub struct Parcel {
 
 /// The letters of a round to one rank, and the channel that they go through.
 #[derive(Drop)]
-pub struct Post {
+pub struct RankChannel {
     pub(crate) outlet: Outlet,
     pub(crate) inlet: Inlet,
     pub(crate) pass: Pass<Letter, Hand>,
@@ -156,15 +156,15 @@ fn deliver_all<R: Wait>(
     }
 }
 
-impl Post {
+impl RankChannel {
     ghost use Rattle.std.specs.Prelude.{◌≡◌, ◌≤◌, ◌<◌, length, IfErr, IfOk};
-    ghost use Rattle.amr_post.specs.Letters.{AreSame, HasDelivered, IsPost, MayDeliver, letters_in};
+    ghost use Rattle.amr_post.specs.Letters.{AreSame, HasDelivered, IsRankChannel, MayDeliver, letters_in};
 
     /// The letters of a round to one rank, at most one from each of eight, and a channel with room for them. All memory of the round is
     /// taken here: where it runs out the letters come back.
-    pub fn open(alloc: Global, mut letters: Vec<Letter>) -> Result<Post, Vec<Letter>>
+    pub fn open(alloc: Global, mut letters: Vec<Letter>) -> Result<RankChannel, Vec<Letter>>
         requires { length letters.items ≤ 8 }
-        ensures post { IfOk result IsPost }
+        ensures post { IfOk result IsRankChannel }
         ensures letters { IfOk result (λ p. AreSame (letters_in p.parcels.items) letters.items) }
         ensures back { IfErr result (λ back. back.items ≡ letters.items) }
     {
@@ -178,7 +178,7 @@ impl Post {
             let parcel = pack(&outlet, &mut pass, letter);
             add(&mut parcels, parcel);
         }
-        Ok(Post {
+        Ok(RankChannel {
             outlet,
             inlet,
             pass,
@@ -189,8 +189,8 @@ impl Post {
     /// Sends all letters, by so many threads, which are joined.
     pub fn send<R: Threads + Wait + Sync>(&mut self, rt: &R, threads: usize)
         requires some { 0 < threads }
-        requires post { IsPost self.old }
-        ensures post { IsPost self.new }
+        requires post { IsRankChannel self.old }
+        ensures post { IsRankChannel self.new }
         ensures letters { letters_in self.new.parcels.items ≡ letters_in self.old.parcels.items }
     {
         send_all(rt, &self.outlet, threads, self.parcels.as_mut_slice());

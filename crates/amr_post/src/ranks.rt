@@ -5,9 +5,9 @@ ghost use Rattle.std.specs.List.{All};
 ghost use Rattle.amr_ranks.specs.Letters.{numbers_of};
 ghost use Rattle.amr_ranks.specs.Nodes.{fresh_node};
 ghost use Rattle.amr_post.specs.declared.ranks.Rank.{Rank};
-ghost use Rattle.amr_post.specs.Letters.{HasDelivered, IsPost, MayDeliver, letters_in};
+ghost use Rattle.amr_post.specs.Letters.{HasDelivered, IsRankChannel, MayDeliver, letters_in};
 
-use crate::post::Post;
+use crate::post::RankChannel;
 use amr_causes::NoMemory;
 use amr_ranks::{Letter, Node};
 use std::alloc::Global;
@@ -17,7 +17,7 @@ use std::thread::{Threads, for_each_mut};
 /// A rank of a round: the letters to it, and its node.
 #[derive(Drop)]
 pub struct Rank {
-    pub post: Post,
+    pub post: RankChannel,
     pub node: Node,
 }
 
@@ -48,7 +48,7 @@ impl Rank {
         let Ok(node) = node_for(alloc, rank, letters.as_slice(), words, cells) else {
             return Err(letters);
         };
-        let post = Post::open(alloc, letters)?;
+        let post = RankChannel::open(alloc, letters)?;
         Ok(Rank { post, node })
     }
 }
@@ -77,8 +77,8 @@ fn send_each<R: Threads + Wait + Sync>(rt: &R, threads: usize, ranks: &mut [Rank
         × ((slice_index_or ranks.new k d).node ≡ (slice_index_or ranks.old k d).node) }
 {
     let go = move |_: usize, rank: &mut Rank|
-        requires { (0 < threads) × IsPost rank.now.post }
-        ensures { IsPost rank.exit.now.post × (letters_in rank.exit.now.post.parcels.items ≡ letters_in rank.entry.now.post.parcels.items)
+        requires { (0 < threads) × IsRankChannel rank.now.post }
+        ensures { IsRankChannel rank.exit.now.post × (letters_in rank.exit.now.post.parcels.items ≡ letters_in rank.entry.now.post.parcels.items)
             × (rank.exit.now.node ≡ rank.entry.now.node) }
     { rank.post.send(rt, threads) };
     for_each_mut(rt, ranks, 1, &go);

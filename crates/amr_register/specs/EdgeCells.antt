@@ -56,7 +56,7 @@ IsSmallNet e = unsigned_abs e.net < 2 ^ 34
 abbrev pub AreEdgesIn : Extent → List EdgeCell → Type 0
 AreEdgesIn b es = All (λ e. IsTrue (holds b e.cell)) es
 
--- a register cell of a level with masses m below a finer one, where d is its domain, and the sides where covered cells lie
+-- a register cell of a level with masses m beside the next finer one, where d is its domain, and the sides where covered cells lie
 pub record IsEdge (d : Domain) (m fine : Masses) (e : EdgeCell) : Type 0 where
   pub cell : IsTrue (is_register_cell d m fine e.cell)
   pub sides : HasSides d (is_covered fine) e.cell e.sides

@@ -45,7 +45,7 @@ pub record IsBoxAt (k : ℕ) (b : Extent) (r : Register) : Type 0 where
 abbrev pub IsPlaced : Register → Type 0
 IsPlaced r = HaveEachOnce (cells_in r) (edges_in r)
 
--- it was made over level l with masses m, below a finer level with masses `fine`, and its lists are not taken out
+-- it was made over level l with masses m, where the next finer one has masses `fine`, and its lists are not taken out
 pub record IsRegisterOf (p : Problem) (l : ℕ) (m fine : Masses) (r : Register) : Type 0 where
   pub cells : cells_in r ≡ register_cells p l m fine
   pub sides : HaveSides (domain p l) (is_covered fine) (cells_in r) (sides_in r)

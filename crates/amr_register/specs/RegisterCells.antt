@@ -15,7 +15,7 @@ use Rattle.amr_def.specs.Tags.{neighbours}
 abbrev pub has_neighbour_where : Domain → (Cell → Bool) → Cell → Bool
 has_neighbour_where d test c = list_any (λ o. test (home_cell d (moved c o))) neighbours
 
--- of a level with masses m below a finer one with masses `fine`, where d is its domain: a cell of the level that is not
+-- of a level with masses m, where the next finer one has masses `fine`, where d is its domain: a cell of the level that is not
 -- covered, beside a covered one
 unfoldable pub is_register_cell : Domain → Masses → Masses → Cell → Bool
 is_register_cell d m fine c = is_some (m c) && (not (is_covered fine c) && has_neighbour_where d (is_covered fine) c)

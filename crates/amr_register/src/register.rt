@@ -30,7 +30,7 @@ fn no_entries(alloc: Global, count: usize) -> Result<Vec<i64>, NoMemory>
     Ok(entries)
 }
 
-/// A flux register of a level below a finer one: an entry for each register cell. That is a cell of the level that is
+/// A flux register of a level beside the next finer one: an entry for each register cell. That is a cell of the level that is
 /// not covered, beside a covered one, past the end of a periodic axis too. The cells stand by row, within a row by
 /// column. An entry is what the step of the level leaves out at its cell's coarse-fine edges, in units of mass, above 0
 /// towards the cell (Berger and Colella 1989). For each patch of the level there is a list of the cells that it has, each with

@@ -22,7 +22,7 @@ use Rattle.amr_checkpoint.specs.declared.resumption.Resumed.{Resumed}
 use Rattle.amr_checkpoint.specs.declared.resumption.Resumed.TheVariants as resumed
 use Rattle.amr_checkpoint.specs.Checkpoints.{CanGoOn, content_resumed}
 use Rattle.amr_checkpoint.specs.Contents.{Content, Holds, IsStorable, state_from}
-use Rattle.amr_checkpoint.specs.Kept.{ErrFailsBy, FailsBy, IsSaid, Keeps, KeptRun, SameUntil, made_of}
+use Rattle.amr_checkpoint.specs.KeptCheckpoints.{ErrFailsBy, FailsBy, IsSaid, Keeps, KeptRun, SameUntil, made_of}
 use Rattle.amr_checkpoint.specs.Laws.{IsInSequence}
 use Rattle.amr_checkpoint.specs.Made.{ReadsWith}
 use Rattle.amr_checkpoint.specs.Marks.{answer_of_run, checkpoint_line, marks}
@@ -32,7 +32,7 @@ use Rattle.amr_checkpoint.proofs.KeptRuns.{SaysOfRun}
 use Rattle.amr_checkpoint.proofs.Progress.{checkpoints_rise}
 use Rattle.amr_cli.specs.declared.command.Command.{Command}
 use Rattle.amr_run.specs.Answer.{IsKeptRun, IsPlotOfKeptRun, WasFound, stop_of}
-use Rattle.amr_run.specs.Kept.{KeptReplies}
+use Rattle.amr_run.specs.KeptAnswers.{KeptReplies}
 use Rattle.amr_run.specs.Outcome.{BeginsLines, EndsAtSource, EndsBefore, EndsRun, EndsSettled, RefusesStored, RepliesBy, RunsThrough, StopsBy, StopsKept, StopsRun, StopsTo, status_of}
 use Rattle.amr_run.specs.Sources.{RefusesBy}
 use Rattle.amr_run.specs.Refusals.{keep_refused, resume_refused}

@@ -13,7 +13,7 @@ use Rattle.amr_drive.proofs.Finishes.{finish_here}
 use Rattle.amr_checkpoint.specs.declared.faults.KeepFault.{KeepFault}
 use Rattle.amr_checkpoint.specs.declared.faults.KeepFault.TheVariants as fault
 use Rattle.amr_checkpoint.specs.Contents.{Content, Empty, Fresh, At}
-use Rattle.amr_checkpoint.specs.Kept.{Keeps, KeptRun, checkpoints_of, made_of}
+use Rattle.amr_checkpoint.specs.KeptCheckpoints.{Keeps, KeptRun, checkpoints_of, made_of}
 use Rattle.amr_checkpoint.specs.Marks.{is_mark}
 use Rattle.amr_checkpoint.specs.Outside.{OutsideAt, outside_at}
 use Rattle.amr_checkpoint.proofs.KeptStates.{checkpoints_on, keeps_ended, keeps_longer, keeps_on}

@@ -2,7 +2,7 @@ pub mod Answer
 pub mod Batch
 pub mod Faults
 pub mod Keeper
-pub mod Kept
+pub mod KeptAnswers
 pub mod Laws
 pub mod Outcome
 pub mod Refusals

@@ -7,7 +7,7 @@ use Rattle.amr_def.specs.declared.problem.Problem.{Problem}
 use Rattle.amr_checkpoint.specs.declared.refusal.Refusal.{Refusal}
 use Rattle.amr_checkpoint.specs.Contents.{Content, Holds, IsStorable}
 use Rattle.amr_checkpoint.specs.declared.faults.KeepFault.{KeepFault}
-use Rattle.amr_checkpoint.specs.Kept.{History, KeptRun, made_of}
+use Rattle.amr_checkpoint.specs.KeptCheckpoints.{History, KeptRun, made_of}
 use Rattle.amr_checkpoint.specs.Refusals.{GoesOn}
 use Rattle.amr_checkpoint.specs.Times.{Time}
 use Rattle.amr_checkpoint.specs.Outside.{DiskAt, disk_at}

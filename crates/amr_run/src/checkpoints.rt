@@ -4,7 +4,7 @@ ghost use Rattle.amr_causes.specs.Bytes.{Grows};
 ghost use Rattle.amr_causes.specs.Causes.{Rose};
 ghost use Rattle.amr_checkpoint.specs.Checkpoints.{CanGoOn, IsMeshFor, IsResumedReady, IsStoreFor, MayPut, content_resumed};
 ghost use Rattle.amr_checkpoint.specs.Contents.{Holds, IsStorable, state_from};
-ghost use Rattle.amr_checkpoint.specs.Kept.{Keeps, checkpoints_of, fault_in, made_of, run_of};
+ghost use Rattle.amr_checkpoint.specs.KeptCheckpoints.{Keeps, checkpoints_of, fault_in, made_of, run_of};
 ghost use Rattle.amr_checkpoint.specs.Outside.{outside_at};
 ghost use Rattle.amr_def.specs.Facts.{IsSound};
 ghost use Rattle.amr_def.specs.Run.{finish, start};
@@ -15,7 +15,7 @@ ghost use Rattle.amr_drive.specs.States.{states_after};
 ghost use Rattle.amr_patch.specs.Meshes.{is_spent, state_of};
 ghost use Rattle.amr_store.specs.Phases.{OnlyReads};
 ghost use Rattle.amr_store.specs.Stands.{IsStoreReady, last_in, problem_in};
-ghost use Rattle.amr_run.specs.Kept.{KeptReplies};
+ghost use Rattle.amr_run.specs.KeptAnswers.{KeptReplies};
 ghost use Rattle.amr_run.specs.Outcome.{EndsAtSource, StopsKept, status_of};
 
 use crate::Status;

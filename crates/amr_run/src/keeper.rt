@@ -1,6 +1,6 @@
 //! What a run that keeps checkpoints calls after each step.
 ghost use Rattle.std.specs.Prelude.{◌≡◌, ◌∷◌, [], List, ℕ, OnOk};
-ghost use Rattle.amr_checkpoint.specs.Kept.{Keeps, checkpoints_of, fault_in, run_of};
+ghost use Rattle.amr_checkpoint.specs.KeptCheckpoints.{Keeps, checkpoints_of, fault_in, run_of};
 ghost use Rattle.amr_checkpoint.specs.Outside.{outside_at};
 ghost use Rattle.amr_run.specs.Keeper.{HasProblem, MayKeep};
 

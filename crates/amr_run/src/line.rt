@@ -3,7 +3,7 @@ ghost use Rattle.std.specs.Prelude.{◌≡◌, OnOk, OnErr};
 ghost use Rattle.amr_causes.specs.Causes.{HasCause};
 ghost use Rattle.amr_causes.specs.Bytes.{Grows};
 ghost use Rattle.amr_def.specs.Plot.{line};
-ghost use Rattle.amr_io.specs.Kept.{fragments_text};
+ghost use Rattle.amr_io.specs.Buffered.{fragments_text};
 ghost use Rattle.amr_io.specs.Short.{FallsShort};
 
 use amr_io::{Fragment, Sink, Text, WriteFault};

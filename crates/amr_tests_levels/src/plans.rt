@@ -10,7 +10,7 @@ ghost use Rattle.amr_ghost.specs.Plans.{PlansFrames};
 use crate::frames::{are_of_level, cell, ghost_at, patch, set};
 use amr_causes::NoMemory;
 use amr_def::{Problem, Sides};
-use amr_ghost::{FramePlan, OuterGhosts, Span, fill_run, part_frames, plan_frames_in_threads};
+use amr_ghost::{FramePlan, GhostSpan, OuterGhosts, fill_run, part_frames, plan_frames_in_threads};
 use amr_patch::{Patch, order_of, starts_of};
 use amr_samples::problem;
 use std::alloc::Global;
@@ -29,7 +29,7 @@ fn small_patches(alloc: Global) -> Result<Vec<Patch>, Fail> {
 }
 
 /// Outer ghost cells of level 0, where there is no coarser level, and their values.
-fn outer_of(alloc: Global, p: &Problem, spans: &[Span]) -> Result<OuterGhosts, NoMemory>
+fn outer_of(alloc: Global, p: &Problem, spans: &[GhostSpan]) -> Result<OuterGhosts, NoMemory>
     requires { All (IsOuterSpan (domain p.now 0)) spans.now }
     ensures { IfOk result (λ x. (rs : List Patch) → All (IsSpanBeside rs) spans.now → AreOuterBeside rs x) }
 {
@@ -79,7 +79,7 @@ fn fill_in_threads<R: Threads + Sync>(
 #[test]
 fn planned_in_three_threads(rt: HostRuntime) -> Result<(), Fail> {
     let alloc = rt.alloc();
-    let p = problem(alloc, 16, 16, Sides::Periodic, Sides::Periodic)?;
+    let p = problem(alloc, 16, 16, PatchSides::Periodic, PatchSides::Periodic)?;
     let mut patches = small_patches(alloc)?;
     assert!(rt; set(&mut patches, 15, cell(15, 0), 3));
     assert!(rt; set(&mut patches, 85, cell(5, 5), 5));

@@ -9,7 +9,7 @@ use Rattle.amr_def.specs.declared.problem.Block.{Block}
 use Rattle.amr_def.specs.Plot.{line}
 use Rattle.amr_def.specs.Run.{times}
 use Rattle.amr_io.specs.declared.fragment.Fragment.{Fragment}
-use Rattle.amr_io.specs.Kept.{fragment_text, fragments_text}
+use Rattle.amr_io.specs.Buffered.{fragment_text, fragments_text}
 use Rattle.amr_io.proofs.Sending.{fragments_one_more}
 use Rattle.amr_trial.specs.Generator.{after, draw, moved}
 use Rattle.amr_trial.specs.Trial.{array, block_from, blocks, block_text, courant_x, courant_y, text}

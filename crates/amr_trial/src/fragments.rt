@@ -1,7 +1,7 @@
 //! Fragments of text, written into memory.
 
 ghost use Rattle.std.specs.Prelude.{◌≡◌, ◌++◌, OnOk};
-ghost use Rattle.amr_io.specs.Kept.{fragment_text, fragments_text};
+ghost use Rattle.amr_io.specs.Buffered.{fragment_text, fragments_text};
 
 use amr_causes::NoMemory;
 use amr_io::Fragment;

@@ -4,18 +4,20 @@ use Rattle.amr_board.specs.BoardOf.{BoardOf}
 use Rattle.amr_mailbox.specs.declared.view.Turn.TheVariants.{Free}
 use Rattle.amr_mailbox.specs.MailboxOf.{MailboxOf, EndOf, end_of}
 use Rattle.amr_workers.specs.declared.helper.Recruit.{Recruit}
-use Rattle.amr_workers.specs.declared.order.About.{About}
+use Rattle.amr_workers.specs.declared.order.WorkerSetup.{WorkerSetup}
 use Rattle.amr_workers.specs.Orders.{Admits}
 
 -- a kept worker that waits for an order: of this job and this gate, and with a number below this one
-pub record IsHelper {O J G : Type 0} (job : J) (gate : G) (workers : ℕ) (mailbox : MailboxOf (About J G)) (asker : EndOf O (About J G)) : Type 0 where
+pub record IsHelper {O J G : Type 0} (job : J) (gate : G) (workers : ℕ)
+    (mailbox : MailboxOf (WorkerSetup J G)) (asker : EndOf O (WorkerSetup J G)) : Type 0 where
   pub waits : asker ≡ end_of mailbox Free
   pub job_is : mailbox.key.job.value ≡ job
   pub gate_is : mailbox.key.gate.value ≡ gate
   pub number : mailbox.key.number < workers
 
 -- a kept worker that has not begun: of this job, this gate and this number
-pub record IsRecruit {O J G : Type 0} (job : J) (gate : G) (mailbox : MailboxOf (About J G)) (worker : EndOf O (About J G)) (number : ℕ) : Type 0 where
+pub record IsRecruit {O J G : Type 0} (job : J) (gate : G)
+    (mailbox : MailboxOf (WorkerSetup J G)) (worker : EndOf O (WorkerSetup J G)) (number : ℕ) : Type 0 where
   pub waits : worker ≡ end_of mailbox Free
   pub job_is : mailbox.key.job.value ≡ job
   pub gate_is : mailbox.key.gate.value ≡ gate
@@ -27,5 +29,5 @@ pub record HaveNumbers {P J G : Type 0} (workers : ℕ) (recruits : List (Recrui
   pub numbers : (k : ℕ) (r : Recruit P J G) → k < length recruits → (slice_index_or recruits k r).number ≡ 1 + k
 
 -- the worker of a mailbox is admitted to each task of a board
-abbrev pub AdmitsWorker : {P J G : Type 0} → (ℕ → ℕ → Type 0) → MailboxOf (About J G) → BoardOf P → Type 0
+abbrev pub AdmitsWorker : {P J G : Type 0} → (ℕ → ℕ → Type 0) → MailboxOf (WorkerSetup J G) → BoardOf P → Type 0
 AdmitsWorker admits mailbox board = Admits (admits mailbox.key.number) board

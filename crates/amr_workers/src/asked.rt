@@ -9,7 +9,7 @@ ghost use Rattle.amr_workers.specs.Orders.{MayAsk, Serves};
 use crate::gate::Gate;
 use crate::helper::Helper;
 use crate::job::Job;
-use crate::kept::draw;
+use crate::kept_worker::draw;
 use crate::order::DrawOrder;
 use amr_board::{Piece, Seat};
 use std::sync::Wait;

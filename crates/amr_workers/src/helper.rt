@@ -9,7 +9,7 @@ ghost use Rattle.amr_workers.specs.Orders.{MayAsk, Serves};
 
 use crate::gate::Gate;
 use crate::job::Job;
-use crate::order::{About, DrawOrder, OrderAsker, OrderBox, OrderWorker};
+use crate::order::{DrawOrder, OrderAsker, OrderBox, OrderWorker, WorkerSetup};
 use amr_board::{Piece, Seat};
 use std::alloc::{AllocError, Global};
 use std::snapshot::Snapshot;
@@ -41,7 +41,7 @@ pub(crate) fn new_worker<P: Piece, J: Job<P>, G: Gate>(
     ensures recruit { IfOk result (λ r. IsRecruit job.now gate.now (arc_value r.1.mailbox) r.1.worker r.1.number) }
     ensures number { IfOk result (λ r. r.1.number ≡ number) }
 {
-    let about = About {
+    let about = WorkerSetup {
         job: Snapshot::of(job),
         gate: Snapshot::of(gate),
         number,

@@ -23,7 +23,7 @@ pub struct DrawOrder<P: Piece> {
 
 /// What the mailbox of a kept worker is told: the job and the gate of all its orders, and the worker's number.
 #[derive(Drop)]
-pub struct About<J, G> {
+pub struct WorkerSetup<J, G> {
     pub job: Snapshot<J>,
     pub gate: Snapshot<G>,
     pub number: u32,
@@ -34,7 +34,7 @@ pub struct DrawErrand<P, J, G> {
     duty: PhantomData<(P, J, G)>,
 }
 
-impl<P: Piece, J: Job<P>, G: Gate> Errand<DrawOrder<P>, Seat<P>, About<J, G>>
+impl<P: Piece, J: Job<P>, G: Gate> Errand<DrawOrder<P>, Seat<P>, WorkerSetup<J, G>>
     for DrawErrand<P, J, G> {
     ghost may = { λ about order. MayAsk (J.ready about.job.value) (G.admits about.gate.value about.number) order };
 
@@ -42,10 +42,10 @@ impl<P: Piece, J: Job<P>, G: Gate> Errand<DrawOrder<P>, Seat<P>, About<J, G>>
 }
 
 /// Where the orders of a kept worker lie.
-pub type OrderBox<P, J, G> = Mailbox<DrawOrder<P>, Seat<P>, About<J, G>, DrawErrand<P, J, G>>;
+pub type OrderBox<P, J, G> = Mailbox<DrawOrder<P>, Seat<P>, WorkerSetup<J, G>, DrawErrand<P, J, G>>;
 
 /// The end of a mailbox that a team asks by.
-pub type OrderAsker<P, J, G> = Asker<DrawOrder<P>, Seat<P>, About<J, G>>;
+pub type OrderAsker<P, J, G> = Asker<DrawOrder<P>, Seat<P>, WorkerSetup<J, G>>;
 
 /// The end of a mailbox that a kept worker serves.
-pub type OrderWorker<P, J, G> = Worker<DrawOrder<P>, Seat<P>, About<J, G>>;
+pub type OrderWorker<P, J, G> = Worker<DrawOrder<P>, Seat<P>, WorkerSetup<J, G>>;

@@ -1,8 +1,8 @@
 use Rattle.std.proofs.Common.{sym, subst}
 use Rattle.std.specs.declared.option.Option.{Option}
 use Rattle.std.specs.declared.option.Option.TheVariants.{Some}
-use Rattle.amr_advance.specs.declared.kept.KeptLayout.{KeptLayout}
-use Rattle.amr_advance.specs.Kept.{StaysKept}
+use Rattle.amr_advance.specs.declared.kept_layout.KeptLayout.{KeptLayout}
+use Rattle.amr_advance.specs.KeptLayouts.{StaysKept}
 use Rattle.amr_advance.proofs.before.keep_masses.Goals as goal
 
 pub returns-in-Some-clause-kept : goal.returns-in-Some-clause-kept

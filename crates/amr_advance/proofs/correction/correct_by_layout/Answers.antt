@@ -5,8 +5,8 @@ use Rattle.std.specs.declared.option.Option.TheVariants.{Some}
 use Rattle.std.proofs.lemmas.Result.{IfOk-weaker}
 use Rattle.amr_patch.specs.Levels.{level_of, patches_of}
 use Rattle.amr_patch.specs.Patches.{box}
-use Rattle.amr_advance.specs.declared.kept.KeptLayout.{KeptLayout}
-use Rattle.amr_advance.specs.Kept.{IsKeptLayout, StaysKept}
+use Rattle.amr_advance.specs.declared.kept_layout.KeptLayout.{KeptLayout}
+use Rattle.amr_advance.specs.KeptLayouts.{IsKeptLayout, StaysKept}
 use Rattle.amr_advance.proofs.Corrected.{not_tried}
 use Rattle.amr_advance.proofs.KeptLaws.{lots_for, stays_kept}
 use Rattle.amr_advance.proofs.correction.correct_by_layout.Goals as goal

@@ -12,7 +12,7 @@ use Rattle.amr_register.specs.declared.register.Register.{Register}
 use Rattle.amr_register.specs.Entries.{with_entries}
 use Rattle.amr_register.specs.Fields.{HasEdgesOf, IsPlaced, cells_in, entry_in}
 use Rattle.amr_transfer.specs.Sums.{summed}
-use Rattle.amr_advance.specs.Kept.{StaysKept}
+use Rattle.amr_advance.specs.KeptLayouts.{StaysKept}
 use Rattle.amr_advance.proofs.correction.correct_kept.Goals as goal
 
 pub reflux-requires-clause-placed : goal.reflux-requires-clause-placed

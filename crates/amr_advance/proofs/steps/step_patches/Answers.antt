@@ -6,7 +6,7 @@ use Rattle.amr_patch.specs.Patches.{box, masses_in}
 use Rattle.amr_register.specs.declared.edges.EdgeCell.{EdgeCell}
 use Rattle.amr_register.specs.EdgeCells.{lists_of}
 use Rattle.amr_advance.specs.Registers.{AreEdgesFor, AreNetsOf, edges_of}
-use Rattle.amr_advance.specs.Kept.{totals_kept}
+use Rattle.amr_advance.specs.KeptLayouts.{totals_kept}
 use Rattle.amr_advance.proofs.KeptTotals.{first_there, kept_count}
 use Rattle.amr_advance.proofs.Parts.{back_unchanged, came_back, edges_for, may_take, nets_taken, on_err, totals_of, unchanged}
 use Rattle.amr_advance.proofs.Stepped.{stepped_apart, stepped_boxes, stepped_masses}

@@ -2,8 +2,8 @@ use Rattle.std.proofs.Common.{IfSome, ◌≡◌, ◌∙◌, ◌+◌, ◌*◌, �
 use Rattle.std.specs.Prelude.{slice_index}
 use Rattle.std.specs.declared.option.Option.{Option}
 use Rattle.std.specs.declared.option.Option.TheVariants.{None, Some}
-use Rattle.amr_advance.specs.declared.kept.KeptLayout.{KeptLayout}
-use Rattle.amr_advance.specs.Kept.{HasFirstTotals, totals_in}
+use Rattle.amr_advance.specs.declared.kept_layout.KeptLayout.{KeptLayout}
+use Rattle.amr_advance.specs.KeptLayouts.{HasFirstTotals, totals_in}
 use Rattle.amr_advance.specs.Registers.{cells_of}
 use Rattle.amr_advance.specs.Totals.{SomeHasAbsorbed, SomeMayAbsorb}
 use Rattle.amr_advance.proofs.totals.add_totals.Goals as goal

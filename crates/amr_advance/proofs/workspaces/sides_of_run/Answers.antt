@@ -1,7 +1,7 @@
 use Rattle.std.proofs.Common.{◌≡◌, ◌∙◌, ◌<◌, List, [], ◌∷◌, ◌++◌, length, length-append, get_or, ap, subst, arith}
 use Rattle.std.proofs.lemmas.List.{get_or_default}
 use Rattle.amr_box.specs.Cells.{Extent}
-use Rattle.amr_flux.specs.declared.fluxes.Sides.{Sides}
+use Rattle.amr_flux.specs.declared.fluxes.PatchSides.{PatchSides}
 use Rattle.amr_layout.specs.declared.PatchLayout.{PatchLayout}
 use Rattle.amr_layout.specs.LevelFlowLists.{flows_at}
 use Rattle.amr_lots.specs.Lots.{LieOn}
@@ -17,16 +17,16 @@ loop-k-preserved c =
     let done = c.loop-k.invariant in
     let qs : List Patch = c.args.patches.now in
     let ts : List PatchLayout = c.args.layouts.now in
-    let ds : List Sides = c.loop-k.sides.items in
-    let d : Sides = c.sides_of.result in
+    let ds : List PatchSides = c.loop-k.sides.items in
+    let d : PatchSides = c.sides_of.result in
     let pushed : c.push_reserved.new.self.items ≡ ds ++ d ∷ [] = c.push_reserved.ensures.items in
     let of_box : (q : Patch) → c.bx.result ≡ box (get_or qs k q) = λ q. c.bx.ensures.value ∙ ap box (c.index-patches-k.is ∙ get_or_default qs k c.index-patches-k.result q c.loop-k-test.true) in
     record {
       count = omega (arith, ap length pushed, length-append ds (d ∷ []), done.count);
       room = omega (arith, done.room, c.push_reserved.ensures.capacity);
-      flows = one_more (λ j (x : Sides). (q : Patch) → LieOn x (box (get_or qs j q)) (flows_at c.args.flows.now j)) ds c.push_reserved.new.self.items d k done.count pushed done.flows
+      flows = one_more (λ j (x : PatchSides). (q : Patch) → LieOn x (box (get_or qs j q)) (flows_at c.args.flows.now j)) ds c.push_reserved.new.self.items d k done.count pushed done.flows
           (λ q. subst (LieOn d (box (get_or qs k q))) c.of.ensures (subst (λ (b : Extent). LieOn d b c.of.result.now) (of_box q) c.sides_of.ensures.flows));
-      puts = one_more (λ j (x : Sides). (q : Patch) (t : PatchLayout) → j < length ts → PutsLieOn x (box (get_or qs j q)) (get_or ts j t).puts.items) ds c.push_reserved.new.self.items d k done.count pushed done.puts
+      puts = one_more (λ j (x : PatchSides). (q : Patch) (t : PatchLayout) → j < length ts → PutsLieOn x (box (get_or qs j q)) (get_or ts j t).puts.items) ds c.push_reserved.new.self.items d k done.count pushed done.puts
           (λ q t lt. subst (PutsLieOn d (box (get_or qs k q))) (c.puts_at.ensures t lt) (subst (λ (b : Extent). PutsLieOn d b c.puts_at.result.now) (of_box q) c.sides_of.ensures.puts));
     }
 

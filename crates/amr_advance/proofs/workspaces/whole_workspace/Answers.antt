@@ -4,7 +4,7 @@ use Rattle.std.specs.List.{All}
 use Rattle.std.proofs.lemmas.List.{get_or_default}
 use Rattle.amr_box.specs.Cells.{width}
 use Rattle.amr_ghost.specs.declared.parts.FrameCopy.{FrameCopy}
-use Rattle.amr_ghost.specs.declared.sources.Span.{Span}
+use Rattle.amr_ghost.specs.declared.sources.GhostSpan.{GhostSpan}
 use Rattle.amr_layout.specs.Arounds.{around_of}
 use Rattle.amr_layout.proofs.LevelFlowLists.{has_flows_at}
 use Rattle.amr_layout.proofs.Planned.{nth}
@@ -28,7 +28,7 @@ returns c = λ each le.
     record {
       serves = record {
         copies = λ v. ap (λ (u : Vec FrameCopy). u.items) (c.replace.ensures.value ∙ c.index_mut-2.ensures.value ∙ get_or_default c.args.parts.copies.items 0 c.index_mut-2.result.now v (omega (arith, c.requires.copies)));
-        outer = λ v. ap (λ (u : Vec Span). u.items) (c.in_ok-make.ensures.spans ∙ c.replace-outer.ensures.value ∙ c.index_mut.ensures.value ∙ get_or_default c.args.parts.outer.items 0 c.index_mut.result.now v (omega (arith, c.requires.outer)));
+        outer = λ v. ap (λ (u : Vec GhostSpan). u.items) (c.in_ok-make.ensures.spans ∙ c.replace-outer.ensures.value ∙ c.index_mut.ensures.value ∙ get_or_default c.args.parts.outer.items 0 c.index_mut.result.now v (omega (arith, c.requires.outer)));
         outer_places = c.in_ok-make.ensures.places;
         outbox = c.in_ok-outbox.ensures.outbox;
         inbox = c.in_ok-outbox.ensures.inbox;

@@ -4,7 +4,7 @@ use Rattle.std.specs.List.{All}
 use Rattle.std.proofs.lemmas.List.{get_or_default, length-drop, length-take}
 use Rattle.amr_box.specs.Cells.{width}
 use Rattle.amr_ghost.specs.declared.parts.FrameCopy.{FrameCopy}
-use Rattle.amr_ghost.specs.declared.sources.Span.{Span}
+use Rattle.amr_ghost.specs.declared.sources.GhostSpan.{GhostSpan}
 use Rattle.amr_layout.specs.declared.PatchLayout.{PatchLayout}
 use Rattle.amr_layout.specs.Arounds.{around_of}
 use Rattle.amr_lots.specs.Ready.{HasFlowsIn}
@@ -60,7 +60,7 @@ returns c =
     record {
       serves = record {
         copies = λ v. c.in_ok-from_slice.ensures.items ∙ c.deref-4.ensures.value ∙ ap (λ (u : Vec FrameCopy). u.items) (c.index-2.ensures ∙ get_or_default parts.copies.items (k * runs + k) c.index-2.result.now v below);
-        outer = λ v. ap (λ (u : Vec Span). u.items) c.in_ok-make.ensures.spans ∙ c.in_ok-outer.ensures.items ∙ c.deref-2.ensures.value ∙ ap (λ (u : Vec Span). u.items) (c.index.ensures ∙ get_or_default parts.outer.items k c.index.result.now v here);
+        outer = λ v. ap (λ (u : Vec GhostSpan). u.items) c.in_ok-make.ensures.spans ∙ c.in_ok-outer.ensures.items ∙ c.deref-2.ensures.value ∙ ap (λ (u : Vec GhostSpan). u.items) (c.index.ensures ∙ get_or_default parts.outer.items k c.index.result.now v here);
         outer_places = c.in_ok-make.ensures.places;
         outbox = c.in_ok-outbox.ensures.outbox;
         inbox = c.in_ok-outbox.ensures.inbox;

@@ -5,7 +5,7 @@ use Rattle.amr_patch.specs.Meshes.{state_of}
 use Rattle.amr_store.specs.Stands.{problem_in}
 use Rattle.amr_checkpoint.specs.declared.faults.KeepFault.TheVariants as fault
 use Rattle.amr_checkpoint.specs.Contents.{Content, At}
-use Rattle.amr_checkpoint.specs.Kept.{Keeps, checkpoints_of, run_of}
+use Rattle.amr_checkpoint.specs.KeptCheckpoints.{Keeps, checkpoints_of, run_of}
 use Rattle.amr_checkpoint.specs.Marks.{checkpoint_line, is_mark}
 use Rattle.amr_checkpoint.specs.Outside.{outside_at}
 use Rattle.amr_checkpoint.proofs.KeptStates.{keeps_none, keeps_refused, keeps_stood, keeps_unsaid, keeps_untouched, marked_state, unmarked_state}

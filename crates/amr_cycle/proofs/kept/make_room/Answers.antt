@@ -3,7 +3,7 @@ use Rattle.std.specs.Prelude.{IfSome}
 use Rattle.std.specs.declared.option.Option.{Option}
 use Rattle.std.specs.Global.{Vec}
 use Rattle.amr_cycle.specs.declared.kept.KeptLevel.{KeptLevel}
-use Rattle.amr_cycle.specs.Kept.{AreKept}
+use Rattle.amr_cycle.specs.KeptLevels.{AreKept}
 use Rattle.amr_cycle.proofs.KeptLaws.{kept_more}
 use Rattle.amr_cycle.proofs.kept.make_room.Goals.{in-Some, in-None}
 use Rattle.amr_cycle.proofs.kept.make_room.Goals as goal

@@ -15,9 +15,9 @@ use Rattle.amr_register.specs.Entries.{with_entries}
 use Rattle.amr_register.specs.Fields.{HasEdgesOf}
 use Rattle.amr_transfer.specs.Sums.{summed}
 use Rattle.amr_cycle.specs.Cycles.{entries_of}
-use Rattle.amr_cycle.specs.declared.kept.KeptBelow.{KeptBelow}
+use Rattle.amr_cycle.specs.declared.kept.KeptCoarser.{KeptCoarser}
 use Rattle.amr_advance.proofs.KeptLaws.{kept_layout}
-use Rattle.amr_cycle.specs.Kept.{AreKept}
+use Rattle.amr_cycle.specs.KeptLevels.{AreKept}
 use Rattle.std.proofs.lemmas.Result.{on_ok_weaker}
 use Rattle.amr_cycle.proofs.KeptLaws.{all_below_after, kept_rest}
 use Rattle.amr_cycle.proofs.ReadyLevels.{kept_anew, own_ready, ready_all, ready_anew}
@@ -269,7 +269,7 @@ returns-clause-kept g t c =
     let finest = map level_of c.step_levels-2.new.finer in
     let has = has2 _ _ (once g t at.In_ok-step_levels) (twice g t at.In_ok-step_levels-2) in
     let same =
-    subst (λ (o : Option Register). IfSome c.kept_of.result (λ (b : KeptBelow). (b.before ≡ arc_value c.in_ok-below.below.before) × (b.finer ≡ c.in_ok-below.below.finer) × (Some b.register ≡ o))) c.in_ok-correct.ensures.register c.kept_of.ensures in
+    subst (λ (o : Option Register). IfSome c.kept_of.result (λ (b : KeptCoarser). (b.before ≡ arc_value c.in_ok-below.below.before) × (b.finer ≡ c.in_ok-below.below.finer) × (Some b.register ≡ o))) c.in_ok-correct.ensures.register c.kept_of.ensures in
     let edges =
     edges_stay (map box (patches_of (arc_value c.in_ok-below.below.before))) _ c.step_levels.new.regs.coarser c.step_levels-2.new.regs.coarser c.in_ok-step_levels-2.ensures.coarser
     (edges_stay (map box (patches_of (arc_value c.in_ok-below.below.before))) _ c.in_ok-below.below.regs.coarser c.step_levels.new.regs.coarser c.in_ok-step_levels.ensures.coarser c.in_ok-below.ensures.below.edges) in

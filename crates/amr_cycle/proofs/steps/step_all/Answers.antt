@@ -2,7 +2,7 @@ use Rattle.std.proofs.Common.{List, map, refl, subst, arith}
 use Rattle.amr_patch.specs.declared.levels.Level.{Level as Held}
 use Rattle.amr_patch.specs.Levels.{level_of}
 use Rattle.amr_cycle.specs.Cycles.{HasStepToCome}
-use Rattle.amr_cycle.specs.Kept.{AreKept}
+use Rattle.amr_cycle.specs.KeptLevels.{AreKept}
 use Rattle.amr_cycle.proofs.StateSteps.{no_coarser, sums_fit, whole_part}
 use Rattle.amr_cycle.proofs.steps.step_all.Goals as goal
 

@@ -13,7 +13,7 @@ use Rattle.amr_patch.specs.declared.levels.Level.{Level as Held}
 use Rattle.amr_patch.specs.Levels.{level_of}
 use Rattle.amr_patch.specs.Meshes.{state_of}
 use Rattle.amr_cycle.specs.declared.kept.KeptLevel.{KeptLevel}
-use Rattle.amr_cycle.specs.Kept.{AreKept}
+use Rattle.amr_cycle.specs.KeptLevels.{AreKept}
 use Rattle.amr_cycle.proofs.Coarsenable.{same_count}
 use Rattle.amr_cycle.proofs.StateSteps.{adds, is_stepped, subtracts}
 use Rattle.amr_cycle.proofs.steps.step_kept.Given as given

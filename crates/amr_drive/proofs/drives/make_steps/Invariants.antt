@@ -4,7 +4,7 @@ use Rattle.amr_def.specs.Run.{finish}
 use Rattle.amr_patch.specs.Meshes.{is_spent, levels_of, state_of}
 use Rattle.amr_start.specs.PatchBoxes.{IsChopped}
 use Rattle.amr_cycle.specs.Cycles.{AreCoarsenableAbove}
-use Rattle.amr_cycle.specs.Kept.{IsKeptFor}
+use Rattle.amr_cycle.specs.KeptLevels.{IsKeptFor}
 use Rattle.amr_drive.specs.States.{states_after}
 use Rattle.amr_drive.proofs.drives.make_steps.Given as goal
 

@@ -1,7 +1,7 @@
 use Rattle.std.proofs.Common.{◌≡◌, false}
 use Rattle.amr_def.specs.Facts.{IsSound}
 use Rattle.amr_patch.specs.Meshes.{is_spent, state_of}
-use Rattle.amr_cycle.specs.Kept.{IsKeptFor}
+use Rattle.amr_cycle.specs.KeptLevels.{IsKeptFor}
 use Rattle.amr_drive.specs.Flocks.{IsInPatchesOf}
 use Rattle.amr_drive.specs.Lanes.{stepped_to}
 use Rattle.amr_drive.proofs.intervals.make_plain_steps.Given as goal

@@ -1,5 +1,5 @@
 use Rattle.std.proofs.Common.{◌≡◌, ◌*◌, length, sym, subst, arith}
-use Rattle.amr_ghost.specs.declared.sources.Span.{Span}
+use Rattle.amr_ghost.specs.declared.sources.GhostSpan.{GhostSpan}
 use Rattle.amr_ghost.specs.Parts.{ArePartedTo, IsSpanBelow}
 use Rattle.amr_ghost.proofs.Parting.{none_parted}
 use Rattle.amr_ghost.proofs.parts.part_frames.Goals as goal
@@ -10,7 +10,7 @@ loop-k-init c = none_parted c.args.plan.now.spans.items c.args.width c.args.runs
 pub part_span-requires-clause-there : goal.part_span-requires-clause-there
 part_span-requires-clause-there c =
     let s = c.index.result.now in
-    subst (λ (x : Span). IsSpanBelow (c.args.runs * c.args.width) x) (sym c.index.ensures) (c.requires.enough c.loop-k.k s (omega arith))
+    subst (λ (x : GhostSpan). IsSpanBelow (c.args.runs * c.args.width) x) (sym c.index.ensures) (c.requires.enough c.loop-k.k s (omega arith))
 
 pub loop-k-preserved : goal.loop-k-preserved
 loop-k-preserved c = c.in_ok-part_span.ensures c.args.plan.now.spans.items c.loop-k.k (omega arith) (sym c.index.ensures) c.loop-k.invariant

@@ -3,7 +3,7 @@ use Rattle.std.specs.Global.{Vec}
 use Rattle.std.proofs.lemmas.List.{get_or_default}
 use Rattle.std.proofs.Math.Nat.{div-lt_iff_lt-mul, mod-lt}
 use Rattle.amr_patch.proofs.Rows.{place_within}
-use Rattle.amr_ghost.specs.declared.sources.Span.{Span}
+use Rattle.amr_ghost.specs.declared.sources.GhostSpan.{GhostSpan}
 use Rattle.amr_ghost.specs.declared.parts.FrameCopy.{FrameCopy}
 use Rattle.amr_ghost.specs.Parts.{IsSourceBelow}
 use Rattle.amr_ghost.proofs.Parting.{copies_more, copy_is_span, copy_of, is_elsewhere, outer_is_span, outer_more, outer_of}
@@ -19,12 +19,12 @@ returns-in_default c = λ ss k there is h.
     let lists = c.args.parts.now.outer.items in
     let width = c.args.width in
     let to = c.args.span.patch / width in
-    let new : Vec Span = c.push.new.self in
-    let outer : Span = outer_of width c.args.span in
+    let new : Vec GhostSpan = c.push.new.self in
+    let outer : GhostSpan = outer_of width c.args.span in
     let to_below : to < c.args.runs = (div-lt_iff_lt-mul c.requires.some).1 c.requires.there.0 in
     let below : to < length lists = omega (arith, to_below, c.requires.outer_count) in
     let had : c.index_mut.result.now ≡ get_or lists to new = c.index_mut.ensures.value ∙ get_or_default lists to c.index_mut.result.now new below in
-    let pushed : new.items ≡ (get_or lists to new).items ++ outer ∷ [] = c.in_ok-push.ensures.items ∙ ap (λ (v : Vec Span). v.items ++ outer ∷ []) had in
+    let pushed : new.items ≡ (get_or lists to new).items ++ outer ∷ [] = c.in_ok-push.ensures.items ∙ ap (λ (v : Vec GhostSpan). v.items ++ outer ∷ []) had in
     outer_more ss k width c.args.runs c.args.parts.now c.args.span there is h to new outer to_below pushed (mod-lt c.args.span.patch c.requires.some) (is_elsewhere c.args.span.source c.in_default.not-Beside) (outer_is_span width c.args.span) _ refl
 
 pub index_mut-requires-2 : goal.index_mut-requires-2

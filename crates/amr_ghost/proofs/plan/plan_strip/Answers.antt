@@ -5,7 +5,7 @@ use Rattle.amr_def.specs.Domain.{domain}
 use Rattle.amr_patch.specs.Patches.{box}
 use Rattle.amr_ghost.specs.Strips.{HasRoom}
 use Rattle.amr_ghost.specs.Plans.{HaveStrip, IsSpan, KeepSpans}
-use Rattle.amr_ghost.specs.declared.sources.Span.{Span}
+use Rattle.amr_ghost.specs.declared.sources.GhostSpan.{GhostSpan}
 use Rattle.amr_ghost.proofs.Levels.{few_along, some_patch}
 use Rattle.amr_ghost.proofs.PlannedSpans.{keep_push, keep_refl, keep_trans, no_strip, strip_push}
 use Rattle.amr_ghost.proofs.Spans.{rest_of_strip, room_ahead}
@@ -35,6 +35,6 @@ loop-done-preserved c =
       within = omega (arith, c.span_ahead-span.ensures.within);
       spans = subst (All (IsSpan (domain c.args.p.now c.args.target.level) c.args.patches.now)) items (All-push (IsSpan (domain c.args.p.now c.args.target.level) c.args.patches.now) ss s c.loop-done.invariant.spans c.span_ahead-span.ensures.span);
       kept = subst (KeepSpans c.args.spans.now.items) items (keep_trans c.args.spans.now.items ss _ c.loop-done.invariant.kept (keep_push ss s));
-      made = subst (λ (ts : List Span). HaveStrip ts c.args.target.patch strip.axis strip.from (c.loop-done.done + s.strip.count)) items
+      made = subst (λ (ts : List GhostSpan). HaveStrip ts c.args.target.patch strip.axis strip.from (c.loop-done.done + s.strip.count)) items
           (strip_push ss s c.args.target.patch strip.axis strip.from c.step.result c.loop-done.done c.span_ahead-span.ensures.patch c.span_ahead-span.ensures.axis c.span_ahead-span.ensures.from c.step.ensures c.loop-done.invariant.made);
     }

@@ -6,7 +6,7 @@ use Rattle.std.proofs.lemmas.Iterator.Adapters.{YieldsList-from_vec}
 use Rattle.std.proofs.lemmas.Iterator.Consumers.{YieldsList-end}
 use Rattle.amr_causes.specs.declared.no_memory.NoMemory.{NoMemory}
 use Rattle.amr_ghost.specs.Plans.{ArePlannedRuns, PlansRun}
-use Rattle.amr_ghost.specs.declared.sources.Span.{Span}
+use Rattle.amr_ghost.specs.declared.sources.GhostSpan.{GhostSpan}
 use Rattle.amr_ghost.proofs.RunLaws.{next_joined, no_run}
 use Rattle.amr_ghost.proofs.runs.join_runs.Goals as goal
 
@@ -22,4 +22,4 @@ returns c d ps size h =
     let gives = c.into_iter-run-iterator.ensures.into_iter_gives in
     let seen = YieldsList-end (YieldsList-from_vec c.args.runs.items gives.0 (gives.1 ∙ c.args.runs.ok.0)) c.loop-run.yielded c.loop-run.run-iterator c.loop-run.yielded_by c.next.result c.next.new.self c.in-None.is c.next.ensures.steps in
     let all_seen : c.loop-run.yielded ≡ c.args.runs.items = sym (map-id c.loop-run.yielded) ∙ seen.0 in
-    subst (λ (rs : List (Result (Vec Span) NoMemory)). ArePlannedRuns d ps size rs → PlansRun d ps 0 (length rs * size) c.loop-run.all.items) all_seen (c.loop-run.invariant d ps size) h
+    subst (λ (rs : List (Result (Vec GhostSpan) NoMemory)). ArePlannedRuns d ps size rs → PlansRun d ps 0 (length rs * size) c.loop-run.all.items) all_seen (c.loop-run.invariant d ps size) h

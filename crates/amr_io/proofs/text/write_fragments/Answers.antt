@@ -1,5 +1,5 @@
 use Rattle.std.proofs.Common.{rules}
-use Rattle.amr_io.specs.Kept.{fragments_text}
+use Rattle.amr_io.specs.Buffered.{fragments_text}
 use Rattle.amr_io.proofs.Sending.{flush_stops}
 use Rattle.amr_io.proofs.Shorter.{flush_short}
 use Rattle.amr_io.proofs.text.write_fragments.Goals as goal

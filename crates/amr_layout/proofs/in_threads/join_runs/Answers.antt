@@ -4,7 +4,7 @@ use Rattle.std.specs.declared.result.Result.{Result}
 use Rattle.std.specs.Fork.{slice_chunk}
 use Rattle.amr_causes.specs.declared.NoMemory.{NoMemory}
 use Rattle.amr_patch.specs.declared.patches.Patch.{Patch}
-use Rattle.amr_layout.specs.declared.alone.LevelFlows.{LevelFlows}
+use Rattle.amr_layout.specs.declared.level_flows.LevelFlows.{LevelFlows}
 use Rattle.amr_layout.specs.LevelFlowLists.{AreFlowsOfRun}
 use Rattle.amr_layout.specs.Arounds.{around_of}
 use Rattle.amr_layout.proofs.Runs.{all_patches, bounds_within, no_run, run_more, runs_joined}

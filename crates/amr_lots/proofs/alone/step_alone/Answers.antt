@@ -2,7 +2,7 @@ use Rattle.std.proofs.Common.{◌≡◌, ◌∙◌, ℕ, List, length, refl, sym
 use Rattle.std.specs.Prelude.{slice_index}
 use Rattle.std.specs.Vec.{with_items}
 use Rattle.amr_flux.specs.Rooms.{widest}
-use Rattle.amr_flux.specs.declared.fluxes.Sides.{Sides}
+use Rattle.amr_flux.specs.declared.fluxes.PatchSides.{PatchSides}
 use Rattle.amr_lots.specs.declared.lot.Workspace.{Workspace}
 use Rattle.amr_layout.specs.LevelFlowLists.{flow_lists}
 use Rattle.amr_lots.specs.Lots.{AreReady}
@@ -21,7 +21,7 @@ step_patches-requires-clause-ready c =
 
 pub step_patches-requires-clause-flows : goal.step_patches-requires-clause-flows
 step_patches-requires-clause-flows c =
-    subst (λ (ds : List Sides). HasFlowsIn c.begin.new.workspace.flows ds c.begin.new.patches) (sym c.deref.ensures.value) (flows_now c.args.p.now c.args.l c.args.patches.now c.begin.new.patches c.args.edges.now c.args.workspace.now c.begin.new.workspace c.requires c.begin.ensures.outer c.begin.ensures.filled c.begin.ensures.others)
+    subst (λ (ds : List PatchSides). HasFlowsIn c.begin.new.workspace.flows ds c.begin.new.patches) (sym c.deref.ensures.value) (flows_now c.args.p.now c.args.l c.args.patches.now c.begin.new.patches c.args.edges.now c.args.workspace.now c.begin.new.workspace c.requires c.begin.ensures.outer c.begin.ensures.filled c.begin.ensures.others)
 
 pub returns : goal.returns
 returns c =

@@ -5,7 +5,7 @@ use Rattle.amr_ghost.specs.Messages.{HasFilled, IsFrameCopy, IsMessageTo}
 use Rattle.amr_ghost.specs.Outer.{IsSpanBeside}
 use Rattle.amr_ghost.specs.declared.messages.Message.{Message}
 use Rattle.amr_ghost.specs.declared.parts.FrameCopy.{FrameCopy}
-use Rattle.amr_ghost.specs.declared.sources.Span.{Span}
+use Rattle.amr_ghost.specs.declared.sources.GhostSpan.{GhostSpan}
 use Rattle.amr_lots.proofs.frames.fill_lot.Goals as goal
 
 pub find_values-requires-clause-places : goal.find_values-requires-clause-places
@@ -14,7 +14,7 @@ find_values-requires-clause-places c = c.requires.outer.1
 pub fill_run-requires-clause-outer : goal.fill_run-requires-clause-outer
 fill_run-requires-clause-outer c =
     let found = c.find_values.ensures in
-    (subst (λ (v : Vec Span). All (IsSpanBeside c.args.patches.now) v.items) (sym found.spans) c.requires.outer.0, found.places)
+    (subst (λ (v : Vec GhostSpan). All (IsSpanBeside c.args.patches.now) v.items) (sym found.spans) c.requires.outer.0, found.places)
 
 pub fill_run-requires-clause-copies : goal.fill_run-requires-clause-copies
 fill_run-requires-clause-copies c = subst (λ (xs : List FrameCopy). All (IsFrameCopy c.args.patches.now) xs) (sym c.deref.ensures.value) c.requires.copies

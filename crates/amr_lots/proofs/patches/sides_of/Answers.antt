@@ -2,7 +2,7 @@ use Rattle.std.proofs.Common.{◌≡◌, true, pos, get_or, below_more, subst, a
 use Rattle.std.proofs.lemmas.List.{get_or_default}
 use Rattle.amr_box.specs.declared.Axis.TheVariants.{X}
 use Rattle.amr_def.specs.Flux.{face}
-use Rattle.amr_flux.specs.Sides.{includes, side_of}
+use Rattle.amr_flux.specs.PatchSides.{includes, side_of}
 use Rattle.amr_layout.specs.declared.FlowTo.{FlowTo}
 use Rattle.amr_layout.specs.declared.PutAt.{PutAt}
 use Rattle.amr_lots.proofs.Adding.{with_more}

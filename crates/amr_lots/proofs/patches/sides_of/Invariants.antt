@@ -1,5 +1,5 @@
 use Rattle.std.proofs.Common.{◌≡◌, ℕ, ◌<◌, true, get_or}
-use Rattle.amr_flux.specs.Sides.{includes, side_of}
+use Rattle.amr_flux.specs.PatchSides.{includes, side_of}
 use Rattle.amr_layout.specs.declared.FlowTo.{FlowTo}
 use Rattle.amr_layout.specs.declared.PutAt.{PutAt}
 use Rattle.amr_lots.specs.Lots.{LieOn}

@@ -3,7 +3,7 @@ use Rattle.std.specs.Prelude.{slice_index, unsigned_abs}
 use Rattle.amr_box.specs.declared.Face.{Face}
 use Rattle.amr_patch.specs.Patches.{box, flux_in}
 use Rattle.amr_faces.specs.Faces.{flux_beside}
-use Rattle.amr_flux.specs.Sides.{Side, includes, side_of}
+use Rattle.amr_flux.specs.PatchSides.{Side, includes, side_of}
 use Rattle.amr_lots.proofs.Adding.{flows_alike, none_added, none_lie}
 use Rattle.amr_lots.proofs.SweptPatch.{edges_on}
 use Rattle.amr_lots.proofs.patches.sweep_patch.Goals as goal

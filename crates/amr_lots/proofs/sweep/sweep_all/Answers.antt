@@ -2,7 +2,7 @@ use Rattle.std.proofs.Common.{◌≡◌, ◌∙◌, ℕ, List, length, refl, sym
 use Rattle.std.specs.Prelude.{slice_index}
 use Rattle.std.specs.Vec.{with_items}
 use Rattle.amr_flux.specs.Rooms.{widest}
-use Rattle.amr_flux.specs.declared.fluxes.Sides.{Sides}
+use Rattle.amr_flux.specs.declared.fluxes.PatchSides.{PatchSides}
 use Rattle.amr_lots.specs.declared.lot.Workspace.{Workspace}
 use Rattle.amr_layout.specs.LevelFlowLists.{flow_lists}
 use Rattle.amr_lots.specs.Lots.{AreReady}
@@ -22,7 +22,7 @@ sweep_patches-requires-clause-ready c =
 
 pub sweep_patches-requires-clause-flows : goal.sweep_patches-requires-clause-flows
 sweep_patches-requires-clause-flows c =
-    subst (λ (ds : List Sides). HasFlowsIn c.begin.new.workspace.flows ds c.begin.new.patches) (sym c.deref.ensures.value) (flows_now c.args.p.now c.args.l c.args.patches.now c.begin.new.patches c.args.edges.now c.args.workspace.now c.begin.new.workspace c.requires c.begin.ensures.outer c.begin.ensures.filled c.begin.ensures.others)
+    subst (λ (ds : List PatchSides). HasFlowsIn c.begin.new.workspace.flows ds c.begin.new.patches) (sym c.deref.ensures.value) (flows_now c.args.p.now c.args.l c.args.patches.now c.begin.new.patches c.args.edges.now c.args.workspace.now c.begin.new.workspace c.requires c.begin.ensures.outer c.begin.ensures.filled c.begin.ensures.others)
 
 pub returns : goal.returns
 returns c =
@@ -34,5 +34,5 @@ returns c =
       filled = c.begin.new.patches;
       begun = has_begun c.args.p.now c.args.l c.args.patches.now c.begin.new.patches c.args.edges.now c.begin.new.edges s t after c.begin.ensures.outer c.begin.ensures.filled c.begin.ensures.others c.begin.ensures.nets
           c.sweep_patches.ensures.room (ap length totals ∙ c.sweep_patches.ensures.count ∙ ap length c.deref_mut.ensures.value) (λ word. ap (λ ws. slice_index ws word) totals ∙ c.sweep_patches.ensures.totals word) refl;
-      swept = subst (λ (ds : List Sides). AreSweptOn c.args.p.now c.args.l ds c.begin.new.patches c.sweep_patches.new.patches) (c.deref.ensures.value ∙ ap (λ (x : Workspace). x.sides.items) c.begin.ensures.others) c.sweep_patches.ensures.swept;
+      swept = subst (λ (ds : List PatchSides). AreSweptOn c.args.p.now c.args.l ds c.begin.new.patches c.sweep_patches.new.patches) (c.deref.ensures.value ∙ ap (λ (x : Workspace). x.sides.items) c.begin.ensures.others) c.sweep_patches.ensures.swept;
     }

@@ -3,7 +3,7 @@ use Rattle.amr_box.specs.Cells.{Extent}
 use Rattle.amr_def.specs.Plot.{box_text, names_species}
 use Rattle.amr_patch.proofs.BoxEntries.{no_box}
 use Rattle.amr_patch.proofs.Items.{item}
-use Rattle.amr_plot.specs.Layers.{IsBoxOf, masses_in}
+use Rattle.amr_plot.specs.Layers.{IsLayerBox, layer_masses}
 use Rattle.amr_plot.specs.Texts.{texts}
 use Rattle.amr_plot.proofs.Pens.{puts_whole, texts_stop, texts_wrote, wrote_same}
 use Rattle.amr_plot.proofs.Putting.{texts_of_list}
@@ -12,11 +12,11 @@ use Rattle.amr_plot.proofs.boxes.put_boxes.Goals as goal
 pub put_box-requires-clause-of_layer : goal.put_box-requires-clause-of_layer
 put_box-requires-clause-of_layer g c =
     let here = item c.args.boxes.now c.loop-b.b-index c.b-item.result no_box c.loop-b-test.true c.b-item.is in
-    subst (λ (b : Extent). IsBoxOf c.args.layer b) (sym here) (c.requires.of_layer c.loop-b.b-index no_box c.loop-b-test.true)
+    subst (λ (b : Extent). IsLayerBox c.args.layer b) (sym here) (c.requires.of_layer c.loop-b.b-index no_box c.loop-b-test.true)
 
 pub returns-in_err-put_box : goal.returns-in_err-put_box
 returns-in_err-put_box g c =
-    let text : Extent → List ℕ = box_text (names_species c.args.layer.problem.now) (masses_in c.args.layer) in
+    let text : Extent → List ℕ = box_text (names_species c.args.layer.problem.now) (layer_masses c.args.layer) in
     let bs = c.args.boxes.now in
     let f : ℕ → List ℕ = λ i. text (get_or bs i no_box) in
     let l = c.loop-b in
@@ -26,7 +26,7 @@ returns-in_err-put_box g c =
 
 pub loop-b-preserved : goal.loop-b-preserved
 loop-b-preserved g c =
-    let text : Extent → List ℕ = box_text (names_species c.args.layer.problem.now) (masses_in c.args.layer) in
+    let text : Extent → List ℕ = box_text (names_species c.args.layer.problem.now) (layer_masses c.args.layer) in
     let bs = c.args.boxes.now in
     let f : ℕ → List ℕ = λ i. text (get_or bs i no_box) in
     let l = c.loop-b in
@@ -36,7 +36,7 @@ loop-b-preserved g c =
 
 pub returns : goal.returns
 returns g c =
-    let text : Extent → List ℕ = box_text (names_species c.args.layer.problem.now) (masses_in c.args.layer) in
+    let text : Extent → List ℕ = box_text (names_species c.args.layer.problem.now) (layer_masses c.args.layer) in
     let bs = c.args.boxes.now in
     let f : ℕ → List ℕ = λ i. text (get_or bs i no_box) in
     let l = c.loop-b in

@@ -4,7 +4,7 @@ use Rattle.amr_def.specs.Plot.{mass_line, names_species, species_line}
 use Rattle.amr_def.specs.State.{Level, Masses, no_masses}
 use Rattle.amr_patch.specs.Levels.{level_of}
 use Rattle.amr_plot.specs.BoxParts.{some_rows}
-use Rattle.amr_plot.specs.Layers.{masses_in}
+use Rattle.amr_plot.specs.Layers.{layer_masses}
 use Rattle.amr_plot.proofs.Layers.{box_cells, masses_are}
 use Rattle.amr_plot.proofs.Pens.{puts_first, puts_same, puts_then}
 use Rattle.amr_plot.proofs.boxes.put_some_rows.Goals as goal
@@ -22,7 +22,7 @@ pub returns : goal.returns
 unfolding some_rows
 returns g c =
     let k = c.args.layer in
-    let m : (level_of c.level.result.now).masses ≡ get_or (masses_in k) c.args.species no_masses =
+    let m : (level_of c.level.result.now).masses ≡ get_or (layer_masses k) c.args.species no_masses =
     ap (λ (j : Level). j.masses) c.level.ensures.level ∙ sym (masses_are k c.requires.layer c.args.species c.requires.there) in
     let line : List ℕ = cond (c.args.first == 0) (species_line (names_species k.problem.now) c.args.species) [] in
     puts_same g.met.P.Pen.laws c.args.pen.now c.put_rows.new.pen _ _ c.put_rows.result

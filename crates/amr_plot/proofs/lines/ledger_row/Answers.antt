@@ -1,7 +1,7 @@
 use Rattle.std.proofs.Common.{◌≡◌, ℕ, List, ◌++◌, ◌∷◌, [], Bool, get_or, sym, ap, ◌∙◌}
 use Rattle.std.specs.Prelude.{codes, decimal}
 use Rattle.amr_def.specs.Plot.{ledger_line}
-use Rattle.amr_io.specs.Kept.{fragment_text}
+use Rattle.amr_io.specs.Buffered.{fragment_text}
 use Rattle.amr_io.specs.declared.fragment.Fragment.{Fragment}
 use Rattle.amr_io.specs.declared.fragment.Fragment.TheVariants.{Str}
 use Rattle.amr_plot.proofs.Fragments.{ledger_fragments, species_ledger_fragments}

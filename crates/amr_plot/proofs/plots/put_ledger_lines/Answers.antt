@@ -1,7 +1,7 @@
 use Rattle.std.proofs.Common.{◌≡◌, ◌<◌, ℕ, List, length, get_or, map, sym, ap, subst, ◌∙◌, arith}
 use Rattle.std.proofs.lemmas.List.{get_or-map, length-map}
 use Rattle.std.proofs.lemmas.Option.{get_or_from_slice_get}
-use Rattle.amr_io.specs.Kept.{fragments_text}
+use Rattle.amr_io.specs.Buffered.{fragments_text}
 use Rattle.amr_def.specs.declared.problem.Row.{Row}
 use Rattle.amr_def.specs.Facts.{no_row, row_at}
 use Rattle.amr_def.specs.Plot.{ledger_line, ledger_lines, names_species}

@@ -7,7 +7,7 @@ use Rattle.amr_checkpoint.specs.declared.faults.KeepFault.TheVariants as fault
 use Rattle.amr_checkpoint.specs.declared.faults.ResumeFault.TheVariants as resuming
 use Rattle.amr_checkpoint.specs.Checkpoints.{content_resumed}
 use Rattle.amr_checkpoint.specs.Contents.{Holds, state_from}
-use Rattle.amr_checkpoint.specs.Kept.{made_of, run_of}
+use Rattle.amr_checkpoint.specs.KeptCheckpoints.{made_of, run_of}
 use Rattle.amr_checkpoint.specs.Marks.{answer_of_run, checkpoint_line, marks}
 use Rattle.amr_checkpoint.specs.Outside.{outside_at}
 use Rattle.amr_checkpoint.proofs.KeptRuns.{says_of_run}
@@ -16,7 +16,7 @@ use Rattle.amr_def.specs.Facts.{IsSound}
 use Rattle.amr_def.specs.Plot.{plot}
 use Rattle.amr_drive.proofs.Finishes.{finish_sound}
 use Rattle.amr_store.specs.Phases.{OnlyReads}
-use Rattle.amr_run.specs.Kept.{KeptReplies}
+use Rattle.amr_run.specs.KeptAnswers.{KeptReplies}
 use Rattle.amr_run.specs.Refusals.{keep_refused, resume_refused}
 use Rattle.amr_run.specs.Outcome.{EndsAtSource, EndsBefore, StopsKept}
 use Rattle.amr_run.specs.declared.status.Status.{Status}

@@ -7,7 +7,7 @@ use Rattle.amr_checkpoint.specs.declared.resumption.Resumed.{Resumed}
 use Rattle.amr_checkpoint.specs.declared.resumption.Resumed.TheVariants.{Nothing}
 use Rattle.amr_checkpoint.specs.Checkpoints.{CanGoOn, IsResumedReady, content_at_mesh, content_resumed}
 use Rattle.amr_checkpoint.specs.Contents.{Content, Empty, Fresh, Holds}
-use Rattle.amr_checkpoint.specs.Kept.{Keeps, KeptRun, checkpoints_of, fault_in, made_of, run_of}
+use Rattle.amr_checkpoint.specs.KeptCheckpoints.{Keeps, KeptRun, checkpoints_of, fault_in, made_of, run_of}
 use Rattle.amr_checkpoint.specs.Outside.{OutsideAt, outside_at}
 use Rattle.amr_checkpoint.proofs.KeptStates.{keeps_longer, keeps_nothing, keeps_on, keeps_refused, keeps_stood, keeps_untouched}
 use Rattle.amr_checkpoint.proofs.Readings.{holds_one}

@@ -1,5 +1,5 @@
 use Rattle.std.proofs.Common.{◌≡◌, [], ◌∷◌, Some, None, ap, subst, sym, ◌∙◌, arith}
-use Rattle.amr_checkpoint.specs.Kept.{checkpoints_of, fault_in, run_of}
+use Rattle.amr_checkpoint.specs.KeptCheckpoints.{checkpoints_of, fault_in, run_of}
 use Rattle.amr_checkpoint.specs.Outside.{outside_at}
 use Rattle.amr_checkpoint.proofs.KeptStates.{keeps_nothing}
 use Rattle.amr_checkpoint.proofs.Stepping.{start_step}

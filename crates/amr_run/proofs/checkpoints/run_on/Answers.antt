@@ -1,5 +1,5 @@
 use Rattle.std.proofs.Common.{◌≤◌, ◌+◌, refl, sym, arith}
-use Rattle.amr_checkpoint.specs.Kept.{run_of}
+use Rattle.amr_checkpoint.specs.KeptCheckpoints.{run_of}
 use Rattle.amr_checkpoint.specs.Outside.{outside_at}
 use Rattle.amr_drive.proofs.Finishes.{finish_sound}
 use Rattle.amr_drive.proofs.Kept.{coarsenable}

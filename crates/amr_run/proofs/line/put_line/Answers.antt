@@ -2,7 +2,7 @@ use Rattle.std.proofs.Common.{◌≡◌, List, ℕ, [], ◌∷◌, ◌++◌, sub
 use Rattle.std.proofs.lemmas.List.{append-nil}
 use Rattle.amr_causes.specs.Bytes.{Grows}
 use Rattle.amr_def.specs.Plot.{line}
-use Rattle.amr_io.specs.Kept.{Sent, fragments_text}
+use Rattle.amr_io.specs.Buffered.{Sent, fragments_text}
 use Rattle.amr_io.specs.Short.{FallsShort}
 use Rattle.amr_io.proofs.Sending.{all_sent, sent_then}
 use Rattle.amr_io.proofs.Shorter.{flush_short, sent_short, short_longer}

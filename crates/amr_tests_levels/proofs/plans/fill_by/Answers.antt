@@ -8,7 +8,7 @@ use Rattle.amr_ghost.specs.Messages.{IsFrameCopy}
 use Rattle.amr_ghost.specs.Outer.{IsOuterSpan, IsSpanBeside}
 use Rattle.amr_ghost.specs.Parts.{IsRun}
 use Rattle.amr_ghost.specs.declared.parts.FrameCopy.{FrameCopy}
-use Rattle.amr_ghost.specs.declared.sources.Span.{Span}
+use Rattle.amr_ghost.specs.declared.sources.GhostSpan.{GhostSpan}
 use Rattle.amr_ghost.proofs.PartLaws.{copies_received, copies_taken, outer_beside, outer_spans, plan_small}
 use Rattle.amr_ghost.proofs.Zips.{keeps_refl, zip_refl}
 use Rattle.amr_ghost.specs.GhostCells.{KeepsCells}
@@ -23,7 +23,7 @@ outer_of-requires c =
     let ps = c.args.patches.now in
     let d = domain c.args.p.now 0 in
     let parts = c.in_ok-parts in
-    All-same (IsOuterSpan d) c.deref.result.now (get_or parts.parts.outer.items 0 v).items (c.deref.ensures.value ∙ ap (λ (x : Vec Span). x.items) c.index.ensures)
+    All-same (IsOuterSpan d) c.deref.result.now (get_or parts.parts.outer.items 0 v).items (c.deref.ensures.value ∙ ap (λ (x : Vec GhostSpan). x.items) c.index.ensures)
     (outer_spans d ps c.args.plan.now (length ps) 1 parts.parts c.requires.plan parts.ensures 0 v (omega arith))
 
 -- all patches are one run
@@ -41,7 +41,7 @@ fill_run-requires-clause-outer c =
     let ps = c.args.patches.now in
     let d = domain c.args.p.now 0 in
     let parts = c.in_ok-parts in
-    c.in_ok-outer.ensures ps (All-same (IsSpanBeside ps) c.deref.result.now (get_or parts.parts.outer.items 0 v).items (c.deref.ensures.value ∙ ap (λ (x : Vec Span). x.items) c.index.ensures)
+    c.in_ok-outer.ensures ps (All-same (IsSpanBeside ps) c.deref.result.now (get_or parts.parts.outer.items 0 v).items (c.deref.ensures.value ∙ ap (λ (x : Vec GhostSpan). x.items) c.index.ensures)
     (outer_beside d ps ps c.args.plan.now (length ps) 1 parts.parts c.requires.plan parts.ensures (zip_refl KeepsCells keeps_refl ps) 0 ps v (omega arith) (whole ps)))
 
 pub fill_run-requires-clause-copies : goal.fill_run-requires-clause-copies

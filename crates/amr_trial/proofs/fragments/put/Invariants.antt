@@ -1,5 +1,5 @@
 use Rattle.std.proofs.Common.{◌≡◌, ◌++◌, take}
-use Rattle.amr_io.specs.Kept.{fragments_text}
+use Rattle.amr_io.specs.Buffered.{fragments_text}
 use Rattle.amr_trial.proofs.fragments.put.Given as goal
 
 -- the fragments so far are put

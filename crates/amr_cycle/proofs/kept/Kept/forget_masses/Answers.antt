@@ -4,7 +4,7 @@ use Rattle.std.specs.declared.option.Option.{Option}
 use Rattle.std.specs.Global.{Vec}
 use Rattle.std.proofs.lemmas.List.{with_items_is}
 use Rattle.amr_cycle.specs.declared.kept.KeptLevel.{KeptLevel}
-use Rattle.amr_cycle.specs.Kept.{AreKept}
+use Rattle.amr_cycle.specs.KeptLevels.{AreKept}
 use Rattle.amr_cycle.proofs.kept.Kept.forget_masses.Goals as goal
 
 pub returns-in-Some : goal.returns-in-Some

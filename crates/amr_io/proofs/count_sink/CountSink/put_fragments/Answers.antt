@@ -1,5 +1,5 @@
 use Rattle.std.proofs.Common.{sym, take}
-use Rattle.amr_io.specs.Kept.{fragments_text}
+use Rattle.amr_io.specs.Buffered.{fragments_text}
 use Rattle.amr_io.proofs.Counting.{counts_none, counts_same, counts_then}
 use Rattle.amr_io.proofs.Sending.{fragments_one_more}
 use Rattle.amr_io.proofs.count_sink.CountSink.put_fragments.Goals as goal

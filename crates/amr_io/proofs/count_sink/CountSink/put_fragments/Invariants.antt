@@ -1,6 +1,6 @@
 use Rattle.std.proofs.Common.{take}
 use Rattle.amr_io.specs.Counts.{Counts}
-use Rattle.amr_io.specs.Kept.{fragments_text}
+use Rattle.amr_io.specs.Buffered.{fragments_text}
 use Rattle.amr_io.proofs.count_sink.CountSink.put_fragments.Given as goal
 
 -- the fragments so far are counted

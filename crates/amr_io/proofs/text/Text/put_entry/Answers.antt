@@ -1,5 +1,5 @@
 use Rattle.std.proofs.Common.{◌++◌, rules}
-use Rattle.amr_io.specs.Kept.{entry_text}
+use Rattle.amr_io.specs.Buffered.{entry_text}
 use Rattle.amr_io.specs.Short.{FallsShort}
 use Rattle.amr_io.proofs.Shorter.{short_longer}
 use Rattle.amr_io.proofs.text.Text.put_entry.Goals as goal

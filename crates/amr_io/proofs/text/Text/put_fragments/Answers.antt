@@ -1,5 +1,5 @@
 use Rattle.std.proofs.Common.{rules, ◌<◌, ◌++◌, length, arith}
-use Rattle.amr_io.specs.Kept.{fragments_text}
+use Rattle.amr_io.specs.Buffered.{fragments_text}
 use Rattle.amr_causes.specs.Bytes.{TakesPrefix}
 use Rattle.amr_io.specs.Short.{FallsShort}
 use Rattle.amr_io.proofs.Sending.{fragment_sent, fragment_stops}

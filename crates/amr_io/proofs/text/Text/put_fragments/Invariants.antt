@@ -1,5 +1,5 @@
 use Rattle.std.proofs.Common.{◌≡◌, take}
-use Rattle.amr_io.specs.Kept.{Sent, fragments_text}
+use Rattle.amr_io.specs.Buffered.{Sent, fragments_text}
 use Rattle.amr_io.proofs.text.Text.put_fragments.Given as goal
 
 abbrev pub invariant-loop-fragment : goal.invariant-loop-fragment
