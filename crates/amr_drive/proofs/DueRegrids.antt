@@ -1,5 +1,5 @@
 -- Regrids of all species where they are due, and when they are.
-use Rattle.std.proofs.Common.{◌≡◌, ◌∙◌, Bool, true, false, cond, ◌&&◌, ℕ, ◌%◌, ◌≤◌, ◌==◌, min, refl, sym, ap, List, [], ◌∷◌, length, map, arith}
+use Rattle.std.proofs.Common.{◌≡◌, ◌∙◌, Bool, true, false, cond, ◌&&◌, ℕ, zero, suc, ◌+◌, ◌-◌, ◌%◌, ◌<◌, ◌≤◌, ◌==◌, min, refl, sym, ap, List, [], ◌∷◌, length, map, arith}
 use Rattle.std.specs.Prelude.{nat_lt}
 use Rattle.std.specs.List.{All}
 use Rattle.std.proofs.lemmas.List.Elements.{All-head, All-tail}
@@ -9,9 +9,10 @@ use Rattle.amr_def.specs.declared.problem.Row.{Row}
 use Rattle.amr_def.specs.Facts.{IsSound}
 use Rattle.amr_def.specs.NewBoxes.{new_boxes}
 use Rattle.amr_def.specs.Regrid.{refill, regrid_by, regridded_levels}
-use Rattle.amr_def.specs.Run.{regrid_is_due}
-use Rattle.amr_def.specs.Species.{AreAlike, first_state, is_tagged_in_some, regrid_all}
+use Rattle.amr_def.specs.Run.{regrid_is_due, stepped, times}
+use Rattle.amr_def.specs.Species.{AreAlike, IsFlock, each_from, finish_all, first_state, is_tagged_in_some, next_all, of_species, regrid_all, step_of, stepped_all}
 use Rattle.amr_def.specs.State.{Level, State}
+use Rattle.amr_laws.proofs.FlockRuns.{some_states, stepped_all-flock, stepped_all-step, times_stepped_all}
 
 -- ---- one level alone
 
@@ -40,6 +41,25 @@ all_alone p ss e alike = either (regrid_is_due p (first_state ss))
     either : (b : Bool) → ss ≡ cond b (map (regrid_by p (is_tagged_in_some p ss)) ss) ss
     either true = sym (states_alone p (is_tagged_in_some p ss) e ss alike.sound)
     either false = refl
+
+-- so each species goes by itself all the way
+alone_next : (p : Problem) (ss : List State) → p.max_level ≡ 0 → AreAlike p ss → next_all p ss ≡ stepped_all p ss
+unfolding next_all
+alone_next p ss e alike = ap (stepped_all p) (sym (all_alone p ss e alike))
+
+alone_steps : (p : Problem) (n : ℕ) (ss : List State) → p.max_level ≡ 0 → IsFlock p ss → step_of ss + n ≤ p.steps → times (next_all p) n ss ≡ times (stepped_all p) n ss
+alone_steps p zero ss e f fits = refl
+alone_steps p (suc n) ss e f fits =
+    ap (times (next_all p) n) (alone_next p ss e f.alike)
+    ∙ alone_steps p n (stepped_all p ss) e (stepped_all-flock p ss f (omega arith)) (omega (arith, stepped_all-step p ss (some_states p ss f), fits))
+
+pub alone_to : (p : Problem) (k : ℕ) (ss : List State) → p.max_level ≡ 0 → IsFlock p ss → step_of ss < k → k ≤ p.steps
+    → finish_all p ss k ≡ each_from (λ i s. times (stepped (of_species p i)) (k - step_of ss) s) 0 (cond (regrid_is_due p (first_state ss)) (regrid_all p ss) ss)
+unfolding finish_all
+alone_to p k ss e f more within =
+    alone_steps p (k - step_of ss) ss e f (omega (arith, more, within))
+    ∙ times_stepped_all p (k - step_of ss) ss
+    ∙ ap (each_from (λ i s. times (stepped (of_species p i)) (k - step_of ss) s) 0) (all_alone p ss e f.alike)
 
 -- ---- when none is
 

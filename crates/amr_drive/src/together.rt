@@ -24,14 +24,18 @@ use std::alloc::Global;
 use std::sync::Wait;
 use std::thread::Threads;
 
-/// Up to which step species go by themselves from a step: that of the next regrid that is due, or the target.
+/// Up to which step species go by themselves from a step: that of the next regrid that is due, or the target. One level alone stays as
+/// it is whatever is due, so there it is the target.
 fn interval_end(p: &Problem, step: u32, target: u32) -> u32
     requires ahead { step < target }
     requires within { target ≤ p.now.steps }
     ensures later { step < result }
     ensures within { result ≤ target }
-    ensures none_due { (j : ℕ) → step < j → j < result → ((j % p.now.regrid_int) == 0) ≡ false }
+    ensures none_due { 0 < p.now.max_level → (j : ℕ) → step < j → j < result → ((j % p.now.regrid_int) == 0) ≡ false }
 {
+    if p.max_level == 0 {
+        return target;
+    }
     let next = step - step % p.regrid_int + p.regrid_int;
     next.min(target)
 }
@@ -78,8 +82,8 @@ fn regrid_all_if_due<R: Threads + Sync>(
     regrid_lanes(rt, workers, alloc, p, step, meshes, lanes)
 }
 
-/// Makes the steps of all species up to the next regrid that is due, or to the target: the regrid that may be due at this step, and then each
-/// species by itself. Gives the step that they are at.
+/// Makes the steps of all species up to the next regrid that may change them, or to the target: the regrid that may be due at this step, and
+/// then each species by itself. Gives the step that they are at.
 fn go_on<R: Threads + Wait + Sync, G: Gate + Sync>(
     workers: &Workers<'_, R, G>,
     alloc: Global,
@@ -202,7 +206,7 @@ fn drive_meshes<R: Threads + Wait + Sync, G: Gate + Sync>(
 }
 
 /// Makes the steps of all species up to step `target`. Before a step all are regridded together, where that is due: at each step above 0
-/// that is a multiple of `regrid_int`. Until the next one each goes by itself. The workers are shared out among the species, who go side by
+/// that is a multiple of `regrid_int`. Until the next one each goes by itself, and all the way where there is one level alone. The workers are shared out among the species, who go side by
 /// side; where there are fewer workers than species, some go in turn. One species alone goes as [`drive`] has it go. The outcome is the
 /// same for any number of workers, whoever draws which task.
 ///

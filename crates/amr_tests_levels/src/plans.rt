@@ -79,7 +79,7 @@ fn fill_in_threads<R: Threads + Sync>(
 #[test]
 fn planned_in_three_threads(rt: HostRuntime) -> Result<(), Fail> {
     let alloc = rt.alloc();
-    let p = problem(alloc, 16, 16, PatchSides::Periodic, PatchSides::Periodic)?;
+    let p = problem(alloc, 16, 16, Sides::Periodic, Sides::Periodic)?;
     let mut patches = small_patches(alloc)?;
     assert!(rt; set(&mut patches, 15, cell(15, 0), 3));
     assert!(rt; set(&mut patches, 85, cell(5, 5), 5));
