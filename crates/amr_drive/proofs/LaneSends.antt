@@ -12,7 +12,7 @@ use Rattle.amr_board.proofs.board.Shape.TheSendSync.{the_send as shape_send}
 use Rattle.amr_box.proofs.Cell.TheSendSync.{the_send as cell_send}
 use Rattle.amr_box.proofs.Bx.TheSendSync.{the_send as bx_send}
 use Rattle.amr_def.proofs.problem.Problem.TheSendSync.{the_sync as problem_sync}
-use Rattle.amr_flux.proofs.fluxes.Sides.TheSendSync.{the_send as sides_send}
+use Rattle.amr_flux.proofs.fluxes.PatchSides.TheSendSync.{the_send as sides_send}
 use Rattle.amr_flux.proofs.room.Room.TheSendSync.{the_send as room_send}
 use Rattle.amr_ghost.proofs.messages.Message.TheSendSync.{the_send as message_send}
 use Rattle.amr_ghost.proofs.outer.OuterGhosts.TheSendSync.{the_send as outer_send}
@@ -23,8 +23,8 @@ use Rattle.amr_lots.proofs.lot.Correction.TheSendSync.{the_send as correction_se
 use Rattle.amr_lots.specs.contracts.lot.Workspace.{the_row as workspace_row, the_type as workspace_type}
 use Rattle.amr_lots.specs.contracts.lot.Lot.{the_row as lot_row, the_type as lot_type}
 use Rattle.amr_advance.specs.contracts.lots.Lots.{the_row as lots_row, the_type as lots_type}
-use Rattle.amr_advance.specs.contracts.kept.KeptLayout.{the_row as kept_layout_row, the_type as kept_layout_type}
-use Rattle.amr_cycle.specs.contracts.kept.KeptBelow.{the_row as below_row, the_type as below_type}
+use Rattle.amr_advance.specs.contracts.kept_layout.KeptLayout.{the_row as kept_layout_row, the_type as kept_layout_type}
+use Rattle.amr_cycle.specs.contracts.kept.KeptCoarser.{the_row as below_row, the_type as below_type}
 use Rattle.amr_cycle.specs.contracts.kept.KeptLevel.{the_row as kept_level_row, the_type as kept_level_type}
 use Rattle.amr_cycle.specs.contracts.kept.Kept.{the_row as kept_row, the_type as kept_type}
 use Rattle.amr_drive.specs.contracts.lanes.Lane.{the_row as lane_row, the_type as lane_type}
