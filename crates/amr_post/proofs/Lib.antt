@@ -1,4 +1,5 @@
 pub mod Rules
+mod SetAnew
 mod Parcels
 mod Taking
 mod UnderWay

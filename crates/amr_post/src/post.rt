@@ -1,6 +1,6 @@
 //! A rank's letters of a round, from those who send them to its node.
 
-ghost use Rattle.std.specs.Prelude.{◌≡◌, List, ◌+◌, ◌-◌, ◌∷◌, ◌++◌, [], ◌<◌, ◌≤◌, ℕ, Some, false, true, length, vec_capacity, vec_len, MatchOption};
+ghost use Rattle.std.specs.Prelude.{◌≡◌, List, ◌+◌, ◌-◌, ◌∷◌, ◌++◌, [], ◌<◌, ◌≤◌, ℕ, Some, false, true, length, vec_capacity, vec_len, IsSome, MatchOption};
 ghost use Rattle.std.specs.List.{All};
 ghost use Rattle.crossbeam_channel.specs.Claims.{view, IsSeatAt};
 ghost use Rattle.crossbeam_channel.specs.Ends.{receives_on, ruled_capacity, sends_on};
@@ -11,6 +11,7 @@ ghost use Rattle.amr_ranks.specs.declared.node.Taken.TheVariants.{New};
 ghost use Rattle.amr_post.specs.Rounds.{hand, rooms};
 ghost use Rattle.amr_post.specs.Letters.{AreSame, Expects, IsParcel, IsSameNode, letter_of, letters_in};
 
+use crate::amounts::set_all;
 use crate::channel::{Hand, Inlet, Outlet, absorb, another, open, receive, send};
 use amr_ranks::{Letter, Node};
 use crossbeam_channel::Pass;
@@ -41,6 +42,7 @@ fn pack(outlet: &Outlet, pass: &mut Pass<Letter, Hand>, letter: Letter) -> Parce
     ensures channel { IsSeatAt (sends_on outlet.now) pass.new × IsSeatAt (sends_on outlet.now) result.pass }
     ensures parcel { IsParcel result }
     ensures letter { letter_of result ≡ letter ∷ [] }
+    ensures there { IsSome result.letter }
     ensures left { view pass.new ≡ hand ((view pass.old).room - 1) (view pass.old).sent (view pass.old).got }
 {
     Parcel {
@@ -157,7 +159,9 @@ fn deliver_all<R: Wait>(
 }
 
 impl RankChannel {
-    ghost use Rattle.std.specs.Prelude.{◌≡◌, ◌≤◌, ◌<◌, length, IfErr, IfOk};
+    ghost use Rattle.std.specs.Prelude.{◌≡◌, ◌≤◌, ◌<◌, length, map, IfErr, IfOk};
+    ghost use Rattle.std.specs.List.{All};
+    ghost use Rattle.amr_post.specs.Amounts.{HasShares, IsUnsent, with_amounts};
     ghost use Rattle.amr_post.specs.Letters.{AreSame, HasDelivered, IsRankChannel, MayDeliver, letters_in};
 
     /// The letters of a round to one rank, at most one from each of eight, and a channel with room for them. All memory of the round is
@@ -165,6 +169,7 @@ impl RankChannel {
     pub fn open(alloc: Global, mut letters: Vec<Letter>) -> Result<RankChannel, Vec<Letter>>
         requires { length letters.items ≤ 8 }
         ensures post { IfOk result IsRankChannel }
+        ensures unsent { IfOk result IsUnsent }
         ensures letters { IfOk result (λ p. AreSame (letters_in p.parcels.items) letters.items) }
         ensures back { IfErr result (λ back. back.items ≡ letters.items) }
     {
@@ -184,6 +189,19 @@ impl RankChannel {
             pass,
             parcels,
         })
+    }
+
+    /// Gives the letter with this number these amounts, item for item, where it is that many shares. All other letters stay. It is done before
+    /// any is sent, and takes no memory.
+    pub fn set_amounts(&mut self, number: u32, amounts: &[u64])
+        requires post { IsRankChannel self.old }
+        requires unsent { IsUnsent self.old }
+        requires shares { All (HasShares number (length amounts.now)) (letters_in self.old.parcels.items) }
+        ensures post { IsRankChannel self.new }
+        ensures unsent { IsUnsent self.new }
+        ensures letters { letters_in self.new.parcels.items ≡ map (with_amounts number amounts.now) (letters_in self.old.parcels.items) }
+    {
+        set_all(self.parcels.as_mut_slice(), number, amounts);
     }
 
     /// Sends all letters, by so many threads, which are joined.

@@ -26,6 +26,7 @@ impl Rank {
     ghost use Rattle.std.specs.List.{All};
     ghost use Rattle.amr_ranks.specs.Letters.{IsNet, numbers_of};
     ghost use Rattle.amr_ranks.specs.Nodes.{fresh_node};
+    ghost use Rattle.amr_post.specs.Amounts.{IsUnsent};
     ghost use Rattle.amr_post.specs.Letters.{AreSame, MayDeliver, letters_in};
 
     /// This rank with the letters to it, at most one from each of eight, and a node for them with totals of so many words and room for so many
@@ -42,6 +43,7 @@ impl Rank {
         requires net { IsNet letters.items (rank + 1) words cells }
         ensures ready { IfOk result (λ r. MayDeliver r.post r.node) }
         ensures letters { IfOk result (λ r. AreSame (letters_in r.post.parcels.items) letters.items) }
+        ensures unsent { IfOk result (λ r. IsUnsent r.post) }
         ensures node { IfOk result (λ r. r.node ≡ fresh_node rank (numbers_of letters.items) words cells) }
         ensures back { IfErr result (λ back. back.items ≡ letters.items) }
     {

@@ -1,4 +1,5 @@
 use Rattle.std.proofs.Common.{◌≡◌, ◌∙◌, ◌-◌, ◌∷◌, ◌++◌, [], List, length, ap, arith}
+use Rattle.std.specs.Prelude.{IsSome}
 use Rattle.std.proofs.lemmas.List.{length_push}
 use Rattle.std.proofs.lemmas.List.Elements.{All-push, All-same}
 use Rattle.crossbeam_channel.specs.Claims.{IsSeatAt}
@@ -30,6 +31,8 @@ loop-letter-preserved c =
           let e = ap (λ (xs : List Parcel). total w (letters_in xs)) items in
           omega (arith, h, e));
       parcels = All-same IsParcel c.add.new.parcels.items (ps ++ q ∷ []) items (All-push IsParcel ps q inv.parcels c.pack-parcel.ensures.parcel);
+      unsent = All-same (λ (p : Parcel). IsSome p.letter) c.add.new.parcels.items (ps ++ q ∷ []) items
+          (All-push (λ (p : Parcel). IsSome p.letter) ps q inv.unsent c.pack-parcel.ensures.there);
       seat = c.pack-parcel.ensures.channel.0;
       seats = All-same (λ (p : Parcel). IsSeatAt (sends_on outlet) p.pass) c.add.new.parcels.items (ps ++ q ∷ []) items
           (All-push (λ (p : Parcel). IsSeatAt (sends_on outlet) p.pass) ps q inv.seats c.pack-parcel.ensures.channel.1);

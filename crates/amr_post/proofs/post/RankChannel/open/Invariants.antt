@@ -1,4 +1,5 @@
 use Rattle.std.proofs.Common.{◌≡◌, ◌≤◌, ◌+◌, ◌-◌, ℕ, [], length, vec_capacity}
+use Rattle.std.specs.Prelude.{IsSome}
 use Rattle.std.specs.List.{All}
 use Rattle.crossbeam_channel.specs.Claims.{view, IsSeatAt}
 use Rattle.crossbeam_channel.specs.Ends.{sends_on}
@@ -14,6 +15,7 @@ abbrev pub invariant-loop-letter : goal.invariant-loop-letter
 invariant-loop-letter l = record {
   weights : (weight : LetterOf → ℕ) → total weight (letters_in l.parcels.items) + total weight l.letters.items ≡ total weight l.initial.letters.items;
   parcels : All IsParcel l.parcels.items;
+  unsent : All (λ (q : Parcel). IsSome q.letter) l.parcels.items;
   seat : IsSeatAt (sends_on l.outlet) l.pass;
   seats : All (λ (q : Parcel). IsSeatAt (sends_on l.outlet) q.pass) l.parcels.items;
   unused : view l.pass ≡ hand (9 - length l.parcels.items) [] [];
