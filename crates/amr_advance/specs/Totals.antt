@@ -16,7 +16,7 @@ pub record HasTotals (p : Problem) (l : ℕ) (m old fine : Masses) (cells : List
   pub patches : List Patch
   pub of_level : ArePatchesOf p l m patches
   pub words : (word : ℕ) → word < length ws
-      → slice_index ws word ≡ level_total (record { problem = p; level = l; patches = patches; cells = cells; finer = fine }) (plain_size p l m old) word
+      → slice_index ws word ≡ level_total (record { problem = p; level = l; patches = patches; whole = patches; cells = cells; finer = fine }) (plain_size p l m old) word
 
 -- ---- to a register
 

@@ -37,7 +37,7 @@ use Rattle.amr_flows.proofs.RegisterFlowsCells.{plus_none, child_of}
 module _ (p : Problem) (l : ℕ) (coarse fine old finer : Masses) (ps : List Patch) (k : ℕ) (d : Cell) (within : k < length (register_cells p l coarse fine)) where
   -- the level, its fluxes, and the register cell with number k
   abbrev pub level : Around
-  level = record { problem = p; level = suc l; patches = ps; cells = register_cells p l coarse fine; finer = finer }
+  level = record { problem = p; level = suc l; patches = ps; whole = ps; cells = register_cells p l coarse fine; finer = finer }
 
   abbrev pub flux : Face → ℤ
   flux = flux_at p (suc l) fine old

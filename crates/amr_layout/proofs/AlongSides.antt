@@ -132,11 +132,11 @@ module _ (b : Extent) (x y z : ℤ) where
 -- ---- cells of the domain
 
 module _ (s : Around) (b : Extent) (lies : IsInDomain (domain_around s) b) (f : Face) where
-  beside_level : in_domain (domain_around s) (home_cell (domain_around s) (outside b f)) ≡ true → in_patches s.patches (home_cell (domain_around s) (outside b f)) ≡ true → LiesBesideLevel s b f
+  beside_level : in_domain (domain_around s) (home_cell (domain_around s) (outside b f)) ≡ true → in_patches s.whole (home_cell (domain_around s) (outside b f)) ≡ true → LiesBesideLevel s b f
   unfolding is_open is_coarse_fine
   beside_level h p = record {
     not_open = not_from_true (in_domain (domain_around s) (home_cell (domain_around s) (outside b f))) h;
-    not_coarse_fine = and_right (in_domain (domain_around s) (home_cell (domain_around s) (outside b f))) (not (in_patches s.patches (home_cell (domain_around s) (outside b f)))) (not_from_true (in_patches s.patches (home_cell (domain_around s) (outside b f))) p);
+    not_coarse_fine = and_right (in_domain (domain_around s) (home_cell (domain_around s) (outside b f))) (not (in_patches s.whole (home_cell (domain_around s) (outside b f)))) (not_from_true (in_patches s.whole (home_cell (domain_around s) (outside b f))) p);
   }
 
 tests : (d : Domain) (c : Cell) → in_domain d c ≡ true → (is_inside d.columns c.x ≡ true) × (is_inside d.rows c.y ≡ true)
@@ -155,7 +155,7 @@ of_patch ps c i p q lt e is h = in_one ps c i (holder ps c i p lt e (ap (λ (r :
 
 module _ (s : Around) (b q : Extent) (near : IsNear b) (lies : IsInDomain (domain_around s) b) (n k : ℕ) (f : Face) (h : Cell)
     (e : edge_face b n ≡ f) (home : h ≡ home_cell (domain_around s) (outside b f)) (there : in_domain (domain_around s) h ≡ true) (held : holds q h ≡ true)
-    (in_q : (c : Cell) → holds q c ≡ true → in_patches s.patches c ≡ true) where
+    (in_q : (c : Cell) → holds q c ≡ true → in_patches s.whole c ≡ true) where
   abbrev d : Domain
   d = domain_around s
 
@@ -175,7 +175,7 @@ module _ (s : Around) (b q : Extent) (near : IsNear b) (lies : IsInDomain (domai
       ap (home_cell d) out ∙ ap (λ (y : ℤ). cell (wrapped d.wrap_x d.columns (outside b f).x) y) (inside-itself d.wrap_y d.rows z inside_row) ∙ ap (λ (x : ℤ). cell x z) (sym column) in
       let i = inside q h held in
       let inner : holds q (cell h.x z) ≡ true = is_in q (cell h.x z) (record { west = i.west; east = i.east; south = omega (arith, ints, i.south, level); north = omega (arith, ints, reach, level) }) in
-      (g.there, beside_level s b lies (edge_face b (n + k)) (ap (in_domain d) at ∙ passed d (cell h.x z) (tests d h there).0 inside_row) (ap (in_patches s.patches) at ∙ in_q (cell h.x z) inner))
+      (g.there, beside_level s b lies (edge_face b (n + k)) (ap (in_domain d) at ∙ passed d (cell h.x z) (tests d h there).0 inside_row) (ap (in_patches s.whole) at ∙ in_q (cell h.x z) inner))
 
   pub y_beside : f.axis ≡ Y → (f.x +ℤ pos k) ≤ℤ b.hi.x → (h.x +ℤ pos k) ≤ℤ q.hi.x → (n + k < edge_count b) × LiesBesideLevel s b (edge_face b (n + k))
   y_beside along fits reach =
@@ -193,7 +193,7 @@ module _ (s : Around) (b q : Extent) (near : IsNear b) (lies : IsInDomain (domai
       ap (home_cell d) out ∙ ap (λ (x : ℤ). cell x (wrapped d.wrap_y d.rows (outside b f).y)) (inside-itself d.wrap_x d.columns z inside_column) ∙ ap (cell z) (sym row) in
       let i = inside q h held in
       let inner : holds q (cell z h.y) ≡ true = is_in q (cell z h.y) (record { west = omega (arith, ints, i.west, level); east = omega (arith, ints, reach, level); south = i.south; north = i.north }) in
-      (g.there, beside_level s b lies (edge_face b (n + k)) (ap (in_domain d) at ∙ passed d (cell z h.y) inside_column (tests d h there).1) (ap (in_patches s.patches) at ∙ in_q (cell z h.y) inner))
+      (g.there, beside_level s b lies (edge_face b (n + k)) (ap (in_domain d) at ∙ passed d (cell z h.y) inside_column (tests d h there).1) (ap (in_patches s.whole) at ∙ in_q (cell z h.y) inner))
 
   pub x_stretch : f.axis ≡ X → (f.y +ℤ pos k) ≤ℤ b.hi.y → (h.y +ℤ pos k) ≤ℤ q.hi.y → (m : ℕ) → n ≤ m → m ≡ n + k → LiesBesideLevel s b (edge_face b m)
   x_stretch along fits reach m from is = subst (λ (i : ℕ). LiesBesideLevel s b (edge_face b i)) (sym is) (x_beside along fits reach).1

@@ -102,7 +102,7 @@ module _ (s t : Around) (g : SameGround s t) where
   coarse_fine_same : is_coarse_fine s ≡ is_coarse_fine t
   unfolding is_coarse_fine
   coarse_fine_same =
-      let in_level = same_cells s.patches t.patches g.boxes in
+      let in_level = same_cells s.whole t.whole g.whole in
       λ i b f. in_domain (domains i) (home_cell (domains i) (outside b f)) && not (in_level i (home_cell (domains i) (outside b f)))
 
   ledger_open : has_open_side s.problem ≡ true → is_ledger_face s ≡ is_ledger_face t

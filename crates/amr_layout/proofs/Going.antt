@@ -51,9 +51,9 @@ module _ (s : Around) (b : Extent) (f : Face) where
     unfolding is_open
     open_at r e = sym (ap not (e ∙ ap (in_domain (domain_around s)) home))
 
-    pub coarse_at : (r t : Bool) → r ≡ in_domain (domain_around s) h → t ≡ in_patches s.patches h → is_coarse_fine s b f ≡ (r && not t)
+    pub coarse_at : (r t : Bool) → r ≡ in_domain (domain_around s) h → t ≡ in_patches s.whole h → is_coarse_fine s b f ≡ (r && not t)
     unfolding is_coarse_fine
-    coarse_at r t e held = sym (λ i. (e ∙ ap (in_domain (domain_around s)) home) i && not ((held ∙ ap (in_patches s.patches) home) i))
+    coarse_at r t e held = sym (λ i. (e ∙ ap (in_domain (domain_around s)) home) i && not ((held ∙ ap (in_patches s.whole) home) i))
 
     pub beyond_at : (a : Cell) → a ≡ parent h → a ≡ cell_beyond s b f
     unfolding cell_beyond
@@ -64,7 +64,7 @@ module _ (s : Around) (b : Extent) (f : Face) where
   unfolding is_open is_coarse_fine
   open_alone o = from (in_domain (domain_around s) (home_cell (domain_around s) (outside b f))) o
     where
-      from : (t : Bool) → not t ≡ true → (t && not (in_patches s.patches (home_cell (domain_around s) (outside b f)))) ≡ false
+      from : (t : Bool) → not t ≡ true → (t && not (in_patches s.whole (home_cell (domain_around s) (outside b f)))) ≡ false
       from true e = cc
       from false e = refl
 

@@ -1,6 +1,7 @@
 -- The faces on the edges of a patch, and what lies on their other side.
 use Rattle.std.specs.Prelude.{◌≡◌, ℕ, ◌+◌, ◌-◌, ◌*◌, Bool, false, ◌&&◌, not, cond, nat_lt}
-use Rattle.std.specs.Prelude.{ℤ, pos, negsuc, neg_ℤ, ◌+ℤ◌, ◌<ℤ◌, List, IsTrue}
+use Rattle.std.specs.Prelude.{ℤ, pos, negsuc, neg_ℤ, ◌+ℤ◌, ◌<ℤ◌, List, Contains, IsTrue}
+use Rattle.std.specs.List.{All}
 use Rattle.std.specs.declared.option.Option.{Option}
 use Rattle.std.specs.declared.option.Option.TheVariants.{None, Some}
 use Rattle.amr_box.specs.declared.Cell.{Cell}
@@ -18,12 +19,13 @@ use Rattle.amr_patch.specs.Levels.{level_of}
 use Rattle.amr_patch.specs.Patches.{in_patches}
 use Rattle.amr_faces.specs.Faces.{x_end, y_end}
 
--- a level with what lies around it: its problem and number, its patches, the register cells of the next coarser level in
--- their order, and the masses of the next finer level
+-- a level with what lies around it: its problem and number, those of its patches that are worked on, all of its patches, the
+-- register cells of the next coarser level in their order, and the masses of the next finer level
 pub record Around : Type 0 where
   pub problem : Problem
   pub level : ℕ
   pub patches : List Patch
+  pub whole : List Patch
   pub cells : List Cell
   pub finer : Masses
 
@@ -32,8 +34,17 @@ abbrev pub finer_masses : Option Level → Masses
 finer_masses None = no_masses
 finer_masses (Some k) = (level_of k).masses
 
+-- all of a level is worked on
 abbrev pub around : Problem → ℕ → List Patch → List Cell → Option Level → Around
-around p l ps cells finer = record { problem = p; level = l; patches = ps; cells = cells; finer = finer_masses finer }
+around p l ps cells finer = record { problem = p; level = l; patches = ps; whole = ps; cells = cells; finer = finer_masses finer }
+
+-- of the same level these patches are
+abbrev pub among : Around → List Patch → Around
+among s qs = record s { patches = qs }
+
+-- they are some of the level's
+abbrev pub AreAmong : List Patch → List Patch → Type 0
+AreAmong whole = All (Contains whole)
 
 abbrev pub domain_around : Around → Domain
 domain_around s = domain s.problem s.level
@@ -82,7 +93,7 @@ is_open s b f = not (in_domain (domain_around s) (home_cell (domain_around s) (o
 -- a cell that the level doesn't have: the face lies on the coarse-fine edge (Berger and Colella 1989)
 unfoldable pub is_coarse_fine : Around → Extent → Face → Bool
 is_coarse_fine s b f =
-    in_domain (domain_around s) (home_cell (domain_around s) (outside b f)) && not (in_patches s.patches (home_cell (domain_around s) (outside b f)))
+    in_domain (domain_around s) (home_cell (domain_around s) (outside b f)) && not (in_patches s.whole (home_cell (domain_around s) (outside b f)))
 
 -- a cell of the level
 pub record LiesBesideLevel (s : Around) (b : Extent) (f : Face) : Type 0 where
