@@ -40,8 +40,8 @@ use Rattle.amr_ghost.proofs.Zips.{still_mass, zip_box}
 
 -- ---- the spans of a plan
 
-span_in : (d : Domain) (ps : List Patch) (plan : FramePlan) → PlansFrames d ps plan → (s : GhostSpan) → Any (λ x. x ≡ s) plan.spans.items → IsSpan d ps s
-span_in d ps plan planned s a = subst (IsSpan d ps) (a.3 ∙ a.4) (planned.spans a.0 a.1 a.2)
+span_in : (d : Domain) (ps : List Patch) (plan : FramePlan) → All (IsSpan d ps) plan.spans.items → (s : GhostSpan) → Any (λ x. x ≡ s) plan.spans.items → IsSpan d ps s
+span_in d ps plan spans s a = subst (IsSpan d ps) (a.3 ∙ a.4) (spans a.0 a.1 a.2)
 
 -- the runs have all patches that a plan tells of
 source_small : (d : Domain) (ps : List Patch) (s : Strip) (source : Source) (n : ℕ) → IsSource d ps s source → length ps ≤ n → IsSourceBelow n source
@@ -49,10 +49,10 @@ source_small d ps s Outside n is few = tt
 source_small d ps s (Beside j h) n is few = let there = is.there in omega (arith, there, few)
 source_small d ps s (Coarser h) n is few = tt
 
-pub plan_small : (d : Domain) (ps : List Patch) (plan : FramePlan) (width runs : ℕ) → PlansFrames d ps plan → length ps ≤ runs * width → All (IsSpanBelow (runs * width)) plan.spans.items
-plan_small d ps plan width runs planned few = λ k s lt.
+pub plan_small : (d : Domain) (ps : List Patch) (plan : FramePlan) (width runs : ℕ) → All (IsSpan d ps) plan.spans.items → length ps ≤ runs * width → All (IsSpanBelow (runs * width)) plan.spans.items
+plan_small d ps plan width runs spans few = λ k s lt.
     let span : GhostSpan = get_or plan.spans.items k s in
-    let is : IsSpan d ps span = planned.spans k s lt in
+    let is : IsSpan d ps span = spans k s lt in
     let there : span.patch < length ps = is.there in
     let low : span.patch < runs * width = omega (arith, there, few) in
     (low, source_small d ps span.strip span.source (runs * width) is.source few)
@@ -73,7 +73,7 @@ no_masses d ps s Outside lie some inside is other k t =
 no_masses d ps s (Beside j h) lie some inside is other k t = absurd other
 no_masses d ps s (Coarser h) lie some inside is other k t = ap (masses_in ps) (sym (home_is d s.axis s.from h s.count is.home some inside k t)) ∙ gap_none d s.axis s.from h s.count is.home some inside ps s.count is.gap k t
 
-module _ (d : Domain) (ps : List Patch) (plan : FramePlan) (width runs : ℕ) (parts : FrameParts) (planned : PlansFrames d ps plan) (parted : IsParted plan width runs parts) where
+module _ (d : Domain) (ps : List Patch) (plan : FramePlan) (width runs : ℕ) (parts : FrameParts) (planned : All (IsSpan d ps) plan.spans.items) (parted : IsParted plan width runs parts) where
   part_span : (t : ℕ) (v : Vec GhostSpan) (k : ℕ) (s : GhostSpan) → t < runs → k < length (get_or parts.outer.items t v).items → IsSpan d ps (level_span (t * width) (get_or (get_or parts.outer.items t v).items k s))
   part_span t v k s below lt = span_in d ps plan planned (level_span (t * width) (get_or (get_or parts.outer.items t v).items k s)) (parted.outer t v below k s lt).2
 
@@ -97,7 +97,7 @@ module _ (d : Domain) (ps : List Patch) (plan : FramePlan) (width runs : ℕ) (p
       no_masses d ps x.strip x.source lie is.some (is.ghost_strip (some_patch ps (t * width + x.patch) is.there)).inside is.source (parted.outer t v below k s lt).1
 
 -- so what it found is
-pub outer_valued : (p : Problem) (l : ℕ) (old : Masses) (ps : List Patch) (plan : FramePlan) (width runs : ℕ) (parts : FrameParts) → PlansFrames (domain p l) ps plan → IsParted plan width runs parts → AreInDomain (domain p l) ps → (t : ℕ) (v : Vec GhostSpan) (x : OuterGhosts) → t < runs → x.spans.items ≡ (get_or parts.outer.items t v).items → ((m : Masses) → All (HasNoMass (domain p l) m) x.spans.items → AreOuterFor (value_at p l m old) (is_of_level p l m) x) → AreOuterFor (value_at p l (masses_in ps) old) (is_of_level p l (masses_in ps)) x
+pub outer_valued : (p : Problem) (l : ℕ) (old : Masses) (ps : List Patch) (plan : FramePlan) (width runs : ℕ) (parts : FrameParts) → All (IsSpan (domain p l) ps) plan.spans.items → IsParted plan width runs parts → AreInDomain (domain p l) ps → (t : ℕ) (v : Vec GhostSpan) (x : OuterGhosts) → t < runs → x.spans.items ≡ (get_or parts.outer.items t v).items → ((m : Masses) → All (HasNoMass (domain p l) m) x.spans.items → AreOuterFor (value_at p l m old) (is_of_level p l m) x) → AreOuterFor (value_at p l (masses_in ps) old) (is_of_level p l (masses_in ps)) x
 outer_valued p l old ps plan width runs parts planned parted lie t v x below spans found =
     let d = domain p l in
     let m = masses_in ps in
@@ -132,7 +132,7 @@ run_is width u qs = record {
 
 -- ---- the copies from run u to run t
 
-module _ (d : Domain) (ps qs : List Patch) (plan : FramePlan) (width runs : ℕ) (parts : FrameParts) (planned : PlansFrames d ps plan) (parted : IsParted plan width runs parts) (kept : AllZip KeepsCells ps qs) where
+module _ (d : Domain) (ps qs : List Patch) (plan : FramePlan) (width runs : ℕ) (parts : FrameParts) (planned : All (IsSpan d ps) plan.spans.items) (parted : IsParted plan width runs parts) (kept : AllZip KeepsCells ps qs) where
   same_count : length ps ≡ length qs
   same_count = length_all_zip KeepsCells ps qs kept
 
@@ -240,8 +240,8 @@ module _ (p : Problem) (l : ℕ) (old : Masses) (ps qs rs fs : List Patch) (plan
 
   all_copied : (u : ℕ) (us : List Patch) → u < runs → IsRun width u qs us → All (IsCopyFor value mark us) (copies u)
   all_copied u us from_there from_run = λ k c lt.
-      let taken = copies_taken (domain p l) ps qs plan width runs parts planned parted kept u t us v from_there below from_run k c lt in
-      copied u us (get_or (copies u) k c) from_run taken.there (copy_span (domain p l) ps qs plan width runs parts planned parted kept u t k v c from_there below lt)
+      let taken = copies_taken (domain p l) ps qs plan width runs parts planned.spans parted kept u t us v from_there below from_run k c lt in
+      copied u us (get_or (copies u) k c) from_run taken.there (copy_span (domain p l) ps qs plan width runs parts planned.spans parted kept u t k v c from_there below lt)
 
   -- what the run copies within itself, and what the messages bring
   own_copied : All (IsCopyFor value mark rs) (copies t)
@@ -314,7 +314,7 @@ module _ (p : Problem) (l : ℕ) (old : Masses) (ps qs rs fs : List Patch) (plan
     at = λ c h.
         let now : box (get_or fs k q) ≡ box (get_or rs k q) = zip_box rs fs k q q filled.kept lt in
         let here : IsTrue (is_beside (box (get_or rs k q)) c) = subst (λ (b : Extent). IsTrue (is_beside b c)) now h in
-        let was : box (get_or rs k q) ≡ box (get_or ps (t * width + k) q) = run_box (domain p l) ps qs plan width runs parts planned parted kept t rs run k q lt in
+        let was : box (get_or rs k q) ≡ box (get_or ps (t * width + k) q) = run_box (domain p l) ps qs plan width runs parts planned.spans parted kept t rs run k q lt in
         let there : t * width + k < length ps = let e = length_all_zip KeepsCells ps qs kept in let f = run.there k lt in omega (arith, e, f) in
         by_span k q c lt ((planned.frames (t * width + k) there).at q c (subst (λ (b : Extent). IsTrue (is_beside b c)) was here));
   }

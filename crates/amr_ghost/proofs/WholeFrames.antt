@@ -52,8 +52,8 @@ module _ (p : Problem) (l : ℕ) (old : Masses) (ps : List Patch) (plan : FrameP
 
   within : All (IsFrameCopy ps) (get_or parts.copies.items 0 v).items
   within = λ k c lt. (
-    copies_taken (domain p l) ps ps plan width 1 parts planned parted kept 0 0 ps v (omega arith) (omega arith) run k c lt,
-    copies_received (domain p l) ps ps plan width 1 parts planned parted kept 0 0 ps v (omega arith) (omega arith) run k c lt,
+    copies_taken (domain p l) ps ps plan width 1 parts planned.spans parted kept 0 0 ps v (omega arith) (omega arith) run k c lt,
+    copies_received (domain p l) ps ps plan width 1 parts planned.spans parted kept 0 0 ps v (omega arith) (omega arith) run k c lt,
   )
 
   to_itself : All (IsMessageTo ps) (x ∷ [])
@@ -62,12 +62,12 @@ module _ (p : Problem) (l : ℕ) (old : Masses) (ps : List Patch) (plan : FrameP
   pub fills : FillsFrames p l old ps sources
   fills = record {
     are = record {
-      outer = (All-same (IsSpanBeside ps) sources.outer.spans.items (get_or parts.outer.items 0 w).items spans (outer_beside (domain p l) ps ps plan width 1 parts planned parted kept 0 ps w (omega arith) run), places);
+      outer = (All-same (IsSpanBeside ps) sources.outer.spans.items (get_or parts.outer.items 0 w).items spans (outer_beside (domain p l) ps ps plan width 1 parts planned.spans parted kept 0 ps w (omega arith) run), places);
       copies = All-same (IsFrameCopy ps) sources.copies.items (get_or parts.copies.items 0 v).items copies within;
       inbox = subst (λ (xs : List Message). All (IsMessageTo ps) xs) (sym inbox) to_itself;
     };
     frames = λ fs has k q lt.
-        run_frames p l old ps ps ps fs plan width 1 0 parts v (x ∷ []) planned parted kept (omega arith) run apart w sources.outer spans (outer_valued p l old ps plan width 1 parts planned parted inside 0 w sources.outer (omega arith) spans found) sent
+        run_frames p l old ps ps ps fs plan width 1 0 parts v (x ∷ []) planned parted kept (omega arith) run apart w sources.outer spans (outer_valued p l old ps plan width 1 parts planned.spans parted inside 0 w sources.outer (omega arith) spans found) sent
         (subst (λ (cs : List FrameCopy). HasFilled sources.outer cs (x ∷ []) ps fs) copies (subst (λ (xs : List Message). HasFilled sources.outer sources.copies.items xs ps fs) inbox has))
         k q lt;
   }
