@@ -16,7 +16,7 @@ use Rattle.amr_patch.specs.declared.patches.Patch.{Patch}
 use Rattle.amr_patch.specs.Levels.{level_of}
 use Rattle.amr_patch.specs.Patches.{masses_in}
 use Rattle.amr_layout.specs.Adds.{HasRegisterCells}
-use Rattle.amr_layout.specs.Surroundings.{around}
+use Rattle.amr_layout.specs.Surroundings.{around, around_masses}
 use Rattle.amr_flows.proofs.Ordered.{serve, serve_base}
 use Rattle.amr_flows.specs.Laws.{plain_size}
 use Rattle.amr_flows.specs.Words.{child_flows, level_total}
@@ -63,7 +63,7 @@ module _ (p : Problem) (l : ℕ) (k : Level) (coarse : Held) (r : Register) (old
   pub word_is : (n : ℕ) (c : Cell) → n < length (cells_in r) → pos (slice_index ws (2 + 2 * n)) -ℤ pos (slice_index ws (3 + 2 * n)) ≡ net (child_flows p l k.masses (flux_at p (suc l) k.masses old)) (slice_index_or (cells_in r) n c)
   word_is n c lt =
       (λ i. pos (totals.words (2 + 2 * n) (omega (arith, lt, count)) i) -ℤ pos (totals.words (3 + 2 * n) (omega (arith, lt, count)) i))
-      ∙ (λ i. pos (level_total (record { problem = p; level = suc l; patches = totals.patches; whole = totals.patches; cells = h.2.cells i; finer = fine }) (plain_size p (suc l) k.masses old) (2 + 2 * n)) -ℤ pos (level_total (record { problem = p; level = suc l; patches = totals.patches; cells = h.2.cells i; finer = fine }) (plain_size p (suc l) k.masses old) (3 + 2 * n)))
+      ∙ (λ i. pos (level_total (around_masses p (suc l) totals.patches (h.2.cells i) fine) (plain_size p (suc l) k.masses old) (2 + 2 * n)) -ℤ pos (level_total (around_masses p (suc l) totals.patches (h.2.cells i) fine) (plain_size p (suc l) k.masses old) (3 + 2 * n)))
       ∙ words_are_of_children p l (level_of coarse) k old fine totals.patches n c h.0 level h.1 totals.of_level (in_list n lt)
       ∙ ap (λ (xs : List Cell). net (child_flows p l k.masses (flux_at p (suc l) k.masses old)) (slice_index_or xs n c)) (sym h.2.cells)
 

@@ -38,11 +38,11 @@ no_zip R (x ∷ xs) ys e n = absurd (omega (arith, e))
 run_lists : (each k : ℕ) (vs ws : List (Vec EdgeCell)) → run each k vs ≡ ws → run each k (lists_of vs) ≡ lists_of ws
 run_lists each k vs ws e = sym (map_run (λ (v : Vec EdgeCell). v.items) each k vs) ∙ ap lists_of e
 
-module _ {p : Problem} {l : ℕ} {old : Masses} {ps : List Patch} {cells : List Cell} {next : Option Held} {t : Lots} (level : IsInStep p l old ps cells next t) where
+module _ {s : Around} {old : Masses} {t : Lots} (level : IsInStep s old t) where
   abbrev runs : ℕ
   runs = length t.lots.items
 
-  module _ {handed lent ys : List (Box Lot)} {es ds : List (Vec EdgeCell)} (before : AreRunLots level handed) (none : HaveNoEdges level handed) (fit : AreEdgesFor (map box ps) (lists_of es)) (g : AreLent t.each es ds handed lent) (made : length ys ≡ length t.lots.items) (flows : HaveFlows level lent ys) where
+  module _ {handed lent ys : List (Box Lot)} {es ds : List (Vec EdgeCell)} (before : AreRunLots level handed) (none : HaveNoEdges level handed) (fit : AreEdgesFor (map box s.patches) (lists_of es)) (g : AreLent t.each es ds handed lent) (made : length ys ≡ length t.lots.items) (flows : HaveFlows level lent ys) where
     same_count : (k : ℕ) (x : Box Lot) → k < runs → length (get_or ys k x).value.edges.items ≡ length (get_or lent k x).value.edges.items
     same_count k x lt =
         let vs = (get_or lent k x).value.edges.items in
@@ -87,7 +87,7 @@ module _ {p : Problem} {l : ℕ} {old : Masses} {ps : List Patch} {cells : List 
         back_run k x lt = let m = g.count in run_lists t.each k bs (get_or ys k x).value.edges.items (h.back (omega (arith, some, m)) k x (omega (arith, lt, made)))
 
         enough : (vs : List (Vec EdgeCell)) → length vs ≡ length es → length (lists_of vs) ≤ runs * t.each
-        enough vs same = omega (arith, lists_count vs, same, as_many t.each ps es fit some, level.lots.enough)
+        enough vs same = omega (arith, lists_count vs, same, as_many t.each s.patches es fit some, level.lots.enough)
 
         all_back : (P : List EdgeCell → Type 0) → ((k : ℕ) (x : Box Lot) → k < runs → All P (lists_of (get_or ys k x).value.edges.items)) → All P (lists_of bs)
         all_back P holds = all_runs t.each runs level.lots.some (lists_of bs) (enough bs count_now) P (λ k lt. let x : Box Lot = nth t.lots.items k lt in subst (All P) (sym (back_run k x lt)) (holds k x lt))
@@ -99,10 +99,10 @@ module _ {p : Problem} {l : ℕ} {old : Masses} {ps : List Patch} {cells : List 
             let x : Box Lot = nth t.lots.items k lt in
             subst (SameEdges (run t.each k (lists_of es))) (sym (back_run k x lt)) (subst (λ xs. SameEdges xs (lists_of (get_or ys k x).value.edges.items)) (sym (lent_run k x lt)) (flows.same k x lt)))
 
-        nets_now : (fine : Masses) → AreEdges (domain p l) (masses_in ps) fine (lists_of es) → All (All (λ (c : EdgeCell). c.net ≡ net (edge_flows p l (masses_in ps) old fine) c.cell)) (lists_of bs)
-        nets_now fine edges = all_back (All (λ (c : EdgeCell). c.net ≡ net (edge_flows p l (masses_in ps) old fine) c.cell)) (λ k x lt.
-            flows.nets fine k x lt (subst (AreEdges (domain p l) (masses_in ps) fine) (lent_run k x lt)
-            (All-take (All (IsEdge (domain p l) (masses_in ps) fine)) t.each (drop (k * t.each) (lists_of es)) (All-drop (All (IsEdge (domain p l) (masses_in ps) fine)) (k * t.each) (lists_of es) edges))))
+        nets_now : (fine : Masses) → AreEdges (domain s.problem s.level) (masses_in s.whole) fine (lists_of es) → All (All (λ (c : EdgeCell). c.net ≡ net (edge_flows s.problem s.level (masses_in s.whole) old fine) c.cell)) (lists_of bs)
+        nets_now fine edges = all_back (All (λ (c : EdgeCell). c.net ≡ net (edge_flows s.problem s.level (masses_in s.whole) old fine) c.cell)) (λ k x lt.
+            flows.nets fine k x lt (subst (AreEdges (domain s.problem s.level) (masses_in s.whole) fine) (lent_run k x lt)
+            (All-take (All (IsEdge (domain s.problem s.level) (masses_in s.whole) fine)) t.each (drop (k * t.each) (lists_of es)) (All-drop (All (IsEdge (domain s.problem s.level) (masses_in s.whole) fine)) (k * t.each) (lists_of es) edges))))
 
       -- and so where there are none
       none_back : (P : List EdgeCell → Type 0) → length es ≡ 0 → All P (lists_of bs)
@@ -122,9 +122,9 @@ module _ {p : Problem} {l : ℕ} {old : Masses} {ps : List Patch} {cells : List 
           by_count zero e = none_back (All IsSmallNet) e
           by_count (suc n) e = all_back (omega (arith, e)) (All IsSmallNet) flows.small
 
-      pub all_nets : (fine : Masses) → AreEdges (domain p l) (masses_in ps) fine (lists_of es) → All (All (λ (c : EdgeCell). c.net ≡ net (edge_flows p l (masses_in ps) old fine) c.cell)) (lists_of bs)
+      pub all_nets : (fine : Masses) → AreEdges (domain s.problem s.level) (masses_in s.whole) fine (lists_of es) → All (All (λ (c : EdgeCell). c.net ≡ net (edge_flows s.problem s.level (masses_in s.whole) old fine) c.cell)) (lists_of bs)
       all_nets fine edges = by_count (length es) refl
         where
-          by_count : (n : ℕ) → length es ≡ n → All (All (λ (c : EdgeCell). c.net ≡ net (edge_flows p l (masses_in ps) old fine) c.cell)) (lists_of bs)
-          by_count zero e = none_back (All (λ (c : EdgeCell). c.net ≡ net (edge_flows p l (masses_in ps) old fine) c.cell)) e
+          by_count : (n : ℕ) → length es ≡ n → All (All (λ (c : EdgeCell). c.net ≡ net (edge_flows s.problem s.level (masses_in s.whole) old fine) c.cell)) (lists_of bs)
+          by_count zero e = none_back (All (λ (c : EdgeCell). c.net ≡ net (edge_flows s.problem s.level (masses_in s.whole) old fine) c.cell)) e
           by_count (suc n) e = nets_now (omega (arith, e)) fine edges

@@ -182,15 +182,13 @@ pub record IsFinePlan (s : Around) (each : ℕ) (e : Face → ℕ) (fine : PlanO
   pub adds : (word : ℕ) → map (λ (t : Task). total (added word) t.adds) fine.tasks ≡ map (λ (q : Patch). word_total e word (flows_of s (box q))) s.patches
   pub is_plan : IsPlan fine
 
-module _ {p : Problem} {l : ℕ} {old : Masses} {ps : List Patch} {cells : List Cell} {next : Option Held} {t : Lots} (level : IsInStep p l old ps cells next t) (several : AreSeveralLots (around p l ps cells next) level.lots.parts t) where
-  abbrev s : Around
-  s = around p l ps cells next
+module _ {s : Around} {old : Masses} {t : Lots} (level : IsInStep s old t) (several : AreSeveralLots s level.lots.parts t) where
 
   abbrev e : Fluxes
-  e = flux_at p l (masses_in ps) old
+  e = flux_at s.problem s.level (masses_in s.whole) old
 
   abbrev sizes : Face → ℕ
-  sizes = plain_size p l (masses_in ps) old
+  sizes = plain_size s.problem s.level (masses_in s.whole) old
 
   abbrev runs : ℕ
   runs = length t.lots.items
@@ -198,7 +196,7 @@ module _ {p : Problem} {l : ℕ} {old : Masses} {ps : List Patch} {cells : List 
   abbrev parts : FrameParts
   parts = level.lots.parts
 
-  module _ {lent xs : List (Box Lot)} (d : AreDelivered level lent xs) (b : StepBasis) (coarse : Option Held) (of_b : IsBasisOf p ps coarse b) (coarser : old_masses coarse ≡ old) (ws : List Work) (raw : ArePieces b l Step xs ws) where
+  module _ {lent xs : List (Box Lot)} (d : AreDelivered level lent xs) (b : StepBasis) (coarse : Option Held) (of_b : IsBasisOf s.problem s.whole coarse b) (coarser : old_masses coarse ≡ old) (ws : List Work) (raw : ArePieces b s.level Step xs ws) where
     piece_count : length ws ≡ runs
     piece_count = raw.count ∙ d.all.lots.count
 
@@ -212,7 +210,7 @@ module _ {p : Problem} {l : ℕ} {old : Masses} {ps : List Patch} {cells : List 
       abbrev x : Box Lot
       x = get_or xs k w0.lot
 
-      pub one : IsPiece b l Step k x w
+      pub one : IsPiece b s.level Step k x w
       one = raw.each k w0.lot w0 x_there
 
       lot_is : w.lot ≡ x
@@ -221,17 +219,17 @@ module _ {p : Problem} {l : ℕ} {old : Masses} {ps : List Patch} {cells : List 
       of : IsWorkspaceOf s t.each k runs parts x.value.workspace
       of = d.all.lots.of k w0.lot lt
 
-      patches_are : patches_of w ≡ run t.each k ps
+      patches_are : patches_of w ≡ run t.each k s.patches
       patches_are = ap (λ (z : Box Lot). z.value.patches.items) lot_is ∙ d.all.patches k w0.lot lt
 
       -- what flows is what flows in the level
       pub flux_is : flux w ≡ e
-      flux_is = (λ i. fluxes_of (one.of_basis i) (one.of_level i)) ∙ (λ i. flux_at (of_b.problem i) l (masses_in (of_b.patches i)) ((of_b.coarser ∙ coarser) i))
+      flux_is = (λ i. fluxes_of (one.of_basis i) (one.of_level i)) ∙ (λ i. flux_at (of_b.problem i) s.level (masses_in (of_b.patches i)) ((of_b.coarser ∙ coarser) i))
 
       pub size_is : size w ≡ sizes
       size_is = λ i f. unsigned_abs (flux_is i f)
 
-      flows_are : flows_in w ≡ flow_lists x.value.workspace.flows (length (run t.each k ps))
+      flows_are : flows_in w ≡ flow_lists x.value.workspace.flows (length (run t.each k s.patches))
       flows_are = (λ i. flow_lists (lot_is i).value.workspace.flows (length (patches_are i)))
 
       -- ---- its posts
@@ -243,15 +241,15 @@ module _ {p : Problem} {l : ℕ} {old : Masses} {ps : List Patch} {cells : List 
           ∙ ap (map (put_by sizes)) (sym (flat_map-map (λ (y : List PutAt). y) (λ (t : PatchLayout). t.puts.items) x.value.workspace.layouts.items) ∙ ap (flat_map (λ (y : List PutAt). y)) of.layouts.puts)
           ∙ map_flat (put_by sizes) (λ (y : List PutAt). y) (run t.each k (all_puts s t.each))
 
-      adds_are : adds_of_work w ≡ adds_by sizes x.value.workspace.words.items (flow_lists x.value.workspace.flows (length (run t.each k ps)))
+      adds_are : adds_of_work w ≡ adds_by sizes x.value.workspace.words.items (flow_lists x.value.workspace.flows (length (run t.each k s.patches)))
       adds_are = (λ i. adds_in (one.of_duty i) w) ∙ (λ i. adds_by (size_is i) (lot_is i).value.workspace.words.items (flows_are i))
 
       -- what it adds to a word is what its patches' own flows add up to
-      pub adds_to_word : (word : ℕ) → total (added word) (adds_of_work w) ≡ total (λ (q : Patch). word_total sizes word (flows_of s (box q))) (run t.each k ps)
+      pub adds_to_word : (word : ℕ) → total (added word) (adds_of_work w) ≡ total (λ (q : Patch). word_total sizes word (flows_of s (box q))) (run t.each k s.patches)
       adds_to_word word =
           ap (total (added word)) adds_are
-          ∙ lists_added x.value.workspace.words.items word sizes (map (λ (q : Patch). flows_of s (box q)) (run t.each k ps)) (flow_lists x.value.workspace.flows (length (run t.each k ps))) of.words.numbered
-          ∙ total_map (word_total sizes word) (λ (q : Patch). flows_of s (box q)) (run t.each k ps)
+          ∙ lists_added x.value.workspace.words.items word sizes (map (λ (q : Patch). flows_of s (box q)) (run t.each k s.patches)) (flow_lists x.value.workspace.flows (length (run t.each k s.patches))) of.words.numbered
+          ∙ total_map (word_total sizes word) (λ (q : Patch). flows_of s (box q)) (run t.each k s.patches)
 
     -- ---- the plan of all
 
@@ -271,8 +269,8 @@ module _ {p : Problem} {l : ℕ} {old : Masses} {ps : List Patch} {cells : List 
     a_piece k lt = nth ws k (omega (arith, lt, length-map ws task_of))
 
     module _ (fine : PlanOf) (is : IsFinePlan s t.each sizes fine) where
-      fine_count : length fine.tasks ≡ length ps
-      fine_count = sym (length-map fine.tasks (λ (t : Task). total (added 0) t.adds)) ∙ ap length (is.adds 0) ∙ length-map ps (λ (q : Patch). word_total sizes 0 (flows_of s (box q)))
+      fine_count : length fine.tasks ≡ length s.patches
+      fine_count = sym (length-map fine.tasks (λ (t : Task). total (added 0) t.adds)) ∙ ap length (is.adds 0) ∙ length-map s.patches (λ (q : Patch). word_total sizes 0 (flows_of s (box q)))
 
       pub merged : IsMerged t.each fine plan
       merged = record {
@@ -291,8 +289,8 @@ module _ {p : Problem} {l : ℕ} {old : Masses} {ps : List Patch} {cells : List 
             let w0 = a_piece k lt in
             let below : k < runs = omega (arith, lt, task_count) in
             ap (λ (x : Task). total (added word) x.adds) (at_task k lt w0) ∙ adds_to_word k w0 below word
-            ∙ sym (total_map (λ (n : ℕ). n) (λ (q : Patch). word_total sizes word (flows_of s (box q))) (run t.each k ps))
-            ∙ ap (total (λ (n : ℕ). n)) (map_run (λ (q : Patch). word_total sizes word (flows_of s (box q))) t.each k ps ∙ ap (run t.each k) (sym (is.adds word)) ∙ sym (map_run (λ (x : Task). total (added word) x.adds) t.each k fine.tasks))
+            ∙ sym (total_map (λ (n : ℕ). n) (λ (q : Patch). word_total sizes word (flows_of s (box q))) (run t.each k s.patches))
+            ∙ ap (total (λ (n : ℕ). n)) (map_run (λ (q : Patch). word_total sizes word (flows_of s (box q))) t.each k s.patches ∙ ap (run t.each k) (sym (is.adds word)) ∙ sym (map_run (λ (x : Task). total (added word) x.adds) t.each k fine.tasks))
             ∙ total_map (λ (n : ℕ). n) (λ (x : Task). total (added word) x.adds) (run t.each k fine.tasks);
       }
         where
@@ -302,9 +300,9 @@ module _ {p : Problem} {l : ℕ} {old : Masses} {ps : List Patch} {cells : List 
               let w0 = a_piece k lt in
               let there : k < runs = omega (arith, lt, task_count) in
               let words = (get_or xs k w0.lot).value.workspace.words.items in
-              let adds : adds_of plan k ≡ adds_by sizes words (flow_lists (get_or xs k w0.lot).value.workspace.flows (length (run t.each k ps))) = ap (λ (x : Task). x.adds) (at_task k lt w0) ∙ adds_are k w0 there in
-              let inside : j < length words = add_count sizes words (flow_lists (get_or xs k w0.lot).value.workspace.flows (length (run t.each k ps))) j (subst (λ zs. j < length zs) adds below) in
-              let at : (get_or (adds_of plan k) j no_post).at ≡ slice_index words j = ap (λ zs. (get_or zs j no_post).at) adds ∙ add_at sizes words (flow_lists (get_or xs k w0.lot).value.workspace.flows (length (run t.each k ps))) j inside in
+              let adds : adds_of plan k ≡ adds_by sizes words (flow_lists (get_or xs k w0.lot).value.workspace.flows (length (run t.each k s.patches))) = ap (λ (x : Task). x.adds) (at_task k lt w0) ∙ adds_are k w0 there in
+              let inside : j < length words = add_count sizes words (flow_lists (get_or xs k w0.lot).value.workspace.flows (length (run t.each k s.patches))) j (subst (λ zs. j < length zs) adds below) in
+              let at : (get_or (adds_of plan k) j no_post).at ≡ slice_index words j = ap (λ zs. (get_or zs j no_post).at) adds ∙ add_at sizes words (flow_lists (get_or xs k w0.lot).value.workspace.flows (length (run t.each k s.patches))) j inside in
               let small = (of k w0 there).words.within j 0 inside in
               omega (arith, at, small, several.words)
 
@@ -312,4 +310,4 @@ module _ {p : Problem} {l : ℕ} {old : Masses} {ps : List Patch} {cells : List 
       is_plan = merged_plan merged is.is_plan
 
       pub plan_total : (word : ℕ) → planned_total plan word ≡ level_total s sizes word
-      plan_total word = merged_total merged word ∙ sym (total_map (λ (n : ℕ). n) (λ (x : Task). total (added word) x.adds) fine.tasks) ∙ ap (total (λ (n : ℕ). n)) (is.adds word) ∙ total_map (λ (n : ℕ). n) (λ (q : Patch). word_total sizes word (flows_of s (box q))) ps
+      plan_total word = merged_total merged word ∙ sym (total_map (λ (n : ℕ). n) (λ (x : Task). total (added word) x.adds) fine.tasks) ∙ ap (total (λ (n : ℕ). n)) (is.adds word) ∙ total_map (λ (n : ℕ). n) (λ (q : Patch). word_total sizes word (flows_of s (box q))) s.patches

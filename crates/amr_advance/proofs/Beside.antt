@@ -131,15 +131,13 @@ total_map : {A B : Type 0} (f : B → ℕ) (g : A → B) (xs : List A) → total
 total_map f g [] = refl
 total_map f g (x ∷ xs) = ap (λ n. f (g x) + n) (total_map f g xs)
 
-module _ {p : Problem} {l : ℕ} {old : Masses} {ps : List Patch} {cells : List Cell} {next : Option Held} {t : Lots} (level : IsInStep p l old ps cells next t) (several : AreSeveralLots (around p l ps cells next) level.lots.parts t) where
-  abbrev s : Around
-  s = around p l ps cells next
+module _ {s : Around} {old : Masses} {t : Lots} (level : IsInStep s old t) (several : AreSeveralLots s level.lots.parts t) where
 
   abbrev e : Fluxes
-  e = flux_at p l (masses_in ps) old
+  e = flux_at s.problem s.level (masses_in s.whole) old
 
   abbrev sizes : Face → ℕ
-  sizes = plain_size p l (masses_in ps) old
+  sizes = plain_size s.problem s.level (masses_in s.whole) old
 
   abbrev runs : ℕ
   runs = length t.lots.items
@@ -147,8 +145,8 @@ module _ {p : Problem} {l : ℕ} {old : Masses} {ps : List Patch} {cells : List 
   abbrev parts : FrameParts
   parts = level.lots.parts
 
-  module _ {lent xs : List (Box Lot)} (d : AreDelivered level lent xs) (lists : HaveLists level lent) (b : StepBasis) (coarse : Option Held) (of_b : IsBasisOf p ps coarse b) (coarser : old_masses coarse ≡ old) (ws : List Work) (raw : ArePieces b l Step xs ws)
-      (fine : PlanOf) (is : IsFinePlan (around p l ps cells next) t.each (plain_size p l (masses_in ps) old) fine) (has : ArePlanned (around p l ps cells next) t.each (flux_at p l (masses_in ps) old) fine) where
+  module _ {lent xs : List (Box Lot)} (d : AreDelivered level lent xs) (lists : HaveLists level lent) (b : StepBasis) (coarse : Option Held) (of_b : IsBasisOf s.problem s.whole coarse b) (coarser : old_masses coarse ≡ old) (ws : List Work) (raw : ArePieces b s.level Step xs ws)
+      (fine : PlanOf) (is : IsFinePlan s t.each (plain_size s.problem s.level (masses_in s.whole) old) fine) (has : ArePlanned s t.each (flux_at s.problem s.level (masses_in s.whole) old) fine) where
     abbrev plan : PlanOf
     plan = planned t.shape ws
 
@@ -162,75 +160,75 @@ module _ {p : Problem} {l : ℕ} {old : Masses} {ps : List Patch} {cells : List 
       abbrev y : Workspace
       y = (get_or xs k w0.lot).value.workspace
 
-      piece : IsPiece b l Step k x w
+      piece : IsPiece b s.level Step k x w
       piece = one level several d b coarse of_b coarser ws raw k w0 lt
 
       of : IsWorkspaceOf s t.each k runs parts y
       of = d.all.lots.of k w0.lot lt
 
       -- what the piece has in other words
-      problem_is : w.basis.value.problem.value ≡ p
+      problem_is : w.basis.value.problem.value ≡ s.problem
       problem_is = (λ i. (piece.of_basis i).problem.value) ∙ of_b.problem
 
-      masses_are : masses_of w.basis.value ≡ masses_in ps
+      masses_are : masses_of w.basis.value ≡ masses_in s.whole
       masses_are = (λ i. masses_of (piece.of_basis i)) ∙ (λ i. masses_in (of_b.patches i))
 
       coarser_is : coarser_of w.basis.value ≡ old
       coarser_is = (λ i. coarser_of (piece.of_basis i)) ∙ of_b.coarser ∙ coarser
 
-      patches_are : patches_of w ≡ run t.each k ps
+      patches_are : patches_of w ≡ run t.each k s.patches
       patches_are = ap (λ (z : Box Lot). z.value.patches.items) piece.of_lot ∙ d.all.patches k w0.lot lt
 
-      at_level : (F : Problem → ℕ → Type 0) → F p l → F w.basis.value.problem.value w.level
-      at_level F h = subst (λ (o : Problem). F o w.level) (sym problem_is) (subst (F p) (sym piece.of_level) h)
+      at_level : (F : Problem → ℕ → Type 0) → F s.problem s.level → F w.basis.value.problem.value w.level
+      at_level F h = subst (λ (o : Problem). F o w.level) (sym problem_is) (subst (F s.problem) (sym piece.of_level) h)
 
-      from_level : (F : Problem → ℕ → Type 0) → F w.basis.value.problem.value w.level → F p l
-      from_level F h = subst (F p) piece.of_level (subst (λ (o : Problem). F o w.level) problem_is h)
+      from_level : (F : Problem → ℕ → Type 0) → F w.basis.value.problem.value w.level → F s.problem s.level
+      from_level F h = subst (F s.problem) piece.of_level (subst (λ (o : Problem). F o w.level) problem_is h)
 
-      at_masses : (F : Masses → Masses → Type 0) → F (masses_in ps) old → F (masses_of w.basis.value) (coarser_of w.basis.value)
-      at_masses F h = subst (λ (m : Masses). F m (coarser_of w.basis.value)) (sym masses_are) (subst (F (masses_in ps)) (sym coarser_is) h)
+      at_masses : (F : Masses → Masses → Type 0) → F (masses_in s.whole) old → F (masses_of w.basis.value) (coarser_of w.basis.value)
+      at_masses F h = subst (λ (m : Masses). F m (coarser_of w.basis.value)) (sym masses_are) (subst (F (masses_in s.whole)) (sym coarser_is) h)
 
       at_lot : (F : Lot → Type 0) → F x.value → F w.lot.value
       at_lot F h = subst (λ (z : Box Lot). F z.value) (sym piece.of_lot) h
 
-      at_run : (F : List Patch → Type 0) → F (run t.each k ps) → F (patches_of w)
+      at_run : (F : List Patch → Type 0) → F (run t.each k s.patches) → F (patches_of w)
       at_run F h = subst F (sym patches_are) h
 
       -- what holds of all patches of the level holds of its own
-      of_all : (P : Patch → Type 0) → ((j : ℕ) (q : Patch) → j < length ps → P (get_or ps j q)) → All P (run t.each k ps)
-      of_all P h = λ i q below. subst P (sym (run_at t.each ps k i q below)) (h (k * t.each + i) q (run_place t.each ps k i below))
+      of_all : (P : Patch → Type 0) → ((j : ℕ) (q : Patch) → j < length s.patches → P (get_or s.patches j q)) → All P (run t.each k s.patches)
+      of_all P h = λ i q below. subst P (sym (run_at t.each s.patches k i q below)) (h (k * t.each + i) q (run_place t.each s.patches k i below))
 
       numbers : LevelStepFits w.basis.value.problem.value w.level (masses_of w.basis.value) (coarser_of w.basis.value)
-      numbers = at_level (λ o n. LevelStepFits o n (masses_of w.basis.value) (coarser_of w.basis.value)) (at_masses (LevelStepFits p l) level.fits)
+      numbers = at_level (λ o n. LevelStepFits o n (masses_of w.basis.value) (coarser_of w.basis.value)) (at_masses (LevelStepFits s.problem s.level) level.fits)
 
       of_level : All (λ q. (c : Cell) → IsTrue (holds (box q) c) → masses_of w.basis.value c ≡ Some (mass_in q c)) (patches_of w)
       of_level = at_run (All (λ q. (c : Cell) → IsTrue (holds (box q) c) → masses_of w.basis.value c ≡ Some (mass_in q c)))
           (of_all (λ q. (c : Cell) → IsTrue (holds (box q) c) → masses_of w.basis.value c ≡ Some (mass_in q c))
-          (λ j q there c held. (λ i. masses_are i c) ∙ masses_in-at ps c j q level.apart (record { inside = there; holds_it = λ g. ap (λ (r : Patch). holds (box r) c) (same_default ps j g q there) ∙ held })))
+          (λ j q there c held. (λ i. masses_are i c) ∙ masses_in-at s.patches c j q level.apart (record { inside = there; holds_it = λ g. ap (λ (r : Patch). holds (box r) c) (same_default s.patches j g q there) ∙ held })))
 
       fill : CanFill w.basis.value.problem.value w.level (patches_of w) w.lot.value.workspace
-      fill = at_level (λ o n. CanFill o n (patches_of w) w.lot.value.workspace) (at_lot (λ z. CanFill p l (patches_of w) z.workspace) (can_fill level k lt y of.serves (patches_of w) patches_are))
+      fill = at_level (λ o n. CanFill o n (patches_of w) w.lot.value.workspace) (at_lot (λ z. CanFill s.problem s.level (patches_of w) z.workspace) (can_fill level k lt y of.serves (patches_of w) patches_are))
 
       values : HasValuesOrLevel w.basis.value.problem.value w.level (coarser_of w.basis.value) w.lot.value.workspace.outer
-      values = at_level (λ o n. HasValuesOrLevel o n (coarser_of w.basis.value) w.lot.value.workspace.outer) (at_masses (λ m n. HasValuesOrLevel p l n w.lot.value.workspace.outer) (at_lot (λ z. HasValuesOrLevel p l old z.workspace.outer) (d.all.lots.values k w0.lot lt)))
+      values = at_level (λ o n. HasValuesOrLevel o n (coarser_of w.basis.value) w.lot.value.workspace.outer) (at_masses (λ m n. HasValuesOrLevel s.problem s.level n w.lot.value.workspace.outer) (at_lot (λ z. HasValuesOrLevel s.problem s.level old z.workspace.outer) (d.all.lots.values k w0.lot lt)))
 
-      flows_are : flows_in w ≡ flow_lists y.flows (length (run t.each k ps))
+      flows_are : flows_in w ≡ flow_lists y.flows (length (run t.each k s.patches))
       flows_are = (λ i. flow_lists (piece.of_lot i).value.workspace.flows (length (patches_are i)))
 
       module _ (o : OuterGhosts) (fs : List Patch) (found : HasFoundOuter w.basis.value.problem.value w.level w.lot.value.workspace.outer o) (filled : AreFilled w.lot.value.workspace o (patches_of w) fs) where
-        found_here : HasFoundOuter p l y.outer o
+        found_here : HasFoundOuter s.problem s.level y.outer o
         found_here = from_level (λ r n. HasFoundOuter r n y.outer o) (subst (λ (z : Box Lot). HasFoundOuter w.basis.value.problem.value w.level z.value.workspace.outer o) piece.of_lot found)
 
-        filled_here : AreFilled y o (run t.each k ps) fs
+        filled_here : AreFilled y o (run t.each k s.patches) fs
         filled_here = subst (λ rs. AreFilled y o rs fs) patches_are (subst (λ (z : Box Lot). AreFilled z.value.workspace o (patches_of w) fs) piece.of_lot filled)
 
         shows : All (ShowsValues w.basis.value.problem.value w.level (masses_of w.basis.value) (coarser_of w.basis.value)) fs
         shows = at_level (λ r n. All (ShowsValues r n (masses_of w.basis.value) (coarser_of w.basis.value)) fs)
-            (at_masses (λ m n. All (ShowsValues p l m n) fs) (all_show level k lt y of.serves (d.messages k w0.lot lt) o found_here (d.all.lots.values k w0.lot lt) fs filled_here))
+            (at_masses (λ m n. All (ShowsValues s.problem s.level m n) fs) (all_show level k lt y of.serves (d.messages k w0.lot lt) o found_here (d.all.lots.values k w0.lot lt) fs filled_here))
 
         owned : AllZip AreEdgeFlows fs (flows_in w)
         owned = subst (AllZip AreEdgeFlows fs) (sym flows_are)
-            (numbered_own y.words.items fs (run_flows level k) (flow_lists y.flows (length (run t.each k ps))) of.words.numbered
+            (numbered_own y.words.items fs (run_flows level k) (flow_lists y.flows (length (run t.each k s.patches))) of.words.numbered
             (all_owned level k lt y of.serves (d.messages k w0.lot lt) o found_here (d.all.lots.values k w0.lot lt) fs filled_here))
 
       edges : HasEdges (patches_of w) w.lot.value.edges.items
@@ -238,43 +236,43 @@ module _ {p : Problem} {l : ℕ} {old : Masses} {ps : List Patch} {cells : List 
 
       -- ---- its workspace
 
-      layout_count : length y.layouts.items ≡ length (run t.each k ps)
-      layout_count = sym (length-map y.layouts.items (λ (u : PatchLayout). u.puts.items)) ∙ ap length of.layouts.puts ∙ same_run t.each k (all_puts s t.each) ps has.put_count
+      layout_count : length y.layouts.items ≡ length (run t.each k s.patches)
+      layout_count = sym (length-map y.layouts.items (λ (u : PatchLayout). u.puts.items)) ∙ ap length of.layouts.puts ∙ same_run t.each k (all_puts s t.each) s.patches has.put_count
 
-      module _ (i : ℕ) (below : i < length (run t.each k ps)) where
-        in_ps : k * t.each + i < length ps
-        in_ps = run_place t.each ps k i below
+      module _ (i : ℕ) (below : i < length (run t.each k s.patches)) where
+        in_ps : k * t.each + i < length s.patches
+        in_ps = run_place t.each s.patches k i below
 
-        patch_at : (q : Patch) → get_or (run t.each k ps) i q ≡ get_or ps (k * t.each + i) q
-        patch_at q = run_at t.each ps k i q below
+        patch_at : (q : Patch) → get_or (run t.each k s.patches) i q ≡ get_or s.patches (k * t.each + i) q
+        patch_at q = run_at t.each s.patches k i q below
 
         puts_at : (u : PatchLayout) (v : List PutAt) → (get_or y.layouts.items i u).puts.items ≡ get_or (all_puts s t.each) (k * t.each + i) v
         puts_at u v =
             sym (get_or-map (λ (u : PatchLayout). u.puts.items) y.layouts.items i u v (omega (arith, below, layout_count))) ∙ ap (λ zs. get_or zs i v) of.layouts.puts
-            ∙ run_at t.each (all_puts s t.each) k i v (omega (arith, below, same_run t.each k (all_puts s t.each) ps has.put_count))
+            ∙ run_at t.each (all_puts s t.each) k i v (omega (arith, below, same_run t.each k (all_puts s t.each) s.patches has.put_count))
 
         reads_at : (u : PatchLayout) (v : List ℕ) → (get_or y.layouts.items i u).border.items ≡ get_or (all_places_read s t.each) (k * t.each + i) v
         reads_at u v =
             sym (get_or-map (λ (u : PatchLayout). u.border.items) y.layouts.items i u v (omega (arith, below, layout_count))) ∙ ap (λ zs. get_or zs i v) of.layouts.borders
-            ∙ run_at t.each (all_places_read s t.each) k i v (omega (arith, below, same_run t.each k (all_places_read s t.each) ps has.read_count))
+            ∙ run_at t.each (all_places_read s t.each) k i v (omega (arith, below, same_run t.each k (all_places_read s t.each) s.patches has.read_count))
 
-        puts_on : (q : Patch) (u : PatchLayout) (r : PatchSides) → ArePutsOn (get_or y.sides.items i r) (box (get_or (run t.each k ps) i q)) (get_or y.layouts.items i u).puts.items
+        puts_on : (q : Patch) (u : PatchLayout) (r : PatchSides) → ArePutsOn (get_or y.sides.items i r) (box (get_or (run t.each k s.patches) i q)) (get_or y.layouts.items i u).puts.items
         puts_on q u r = λ j z under.
-            let here = subst (λ zs. All (λ (x : PutAt). IsTrue (is_edge_face (box (get_or ps (k * t.each + i) q)) x.face)) zs) (sym (puts_at u [])) (has.puts (k * t.each + i) q [] in_ps) in
+            let here = subst (λ zs. All (λ (x : PutAt). IsTrue (is_edge_face (box (get_or s.patches (k * t.each + i) q)) x.face)) zs) (sym (puts_at u [])) (has.puts (k * t.each + i) q [] in_ps) in
             let own = subst (λ (g : Patch). All (λ (x : PutAt). IsTrue (is_edge_face (box g) x.face)) (get_or y.layouts.items i u).puts.items) (sym (patch_at q)) here j z under in
             (own, of.layouts.sides i q u r below j z under)
 
-        reads_border : (q : Patch) (u : PatchLayout) → ReadsBorder (planned_face plan) plan.places (flux w) (box (get_or (run t.each k ps) i q)) (get_or y.layouts.items i u)
+        reads_border : (q : Patch) (u : PatchLayout) → ReadsBorder (planned_face plan) plan.places (flux w) (box (get_or (run t.each k s.patches) i q)) (get_or y.layouts.items i u)
         reads_border q u =
-            let mask = subst (λ (g : Patch). HasMask (domain p l) ps t.each g (get_or y.layouts.items i u)) (patch_at q) (zip_at (HasMask (domain p l) ps t.each) (run t.each k ps) y.layouts.items i q u of.layouts.masks below) in
+            let mask = subst (λ (g : Patch). HasMask (domain s.problem s.level) s.patches t.each g (get_or y.layouts.items i u)) (patch_at q) (zip_at (HasMask (domain s.problem s.level) s.patches t.each) (run t.each k s.patches) y.layouts.items i q u of.layouts.masks below) in
             let r = subst (λ (g : Patch). ReadsBorder (planned_face fine) fine.places e (box g) (get_or y.layouts.items i u)) (sym (patch_at q)) (has.reads (k * t.each + i) q (get_or y.layouts.items i u) [] in_ps (reads_at u []) mask) in
             record {
               count = r.count;
               within = λ j z under. let n = r.within j z under in omega (arith, n, several.places, is.places);
-              sizes = λ j f under. merged_face (merged level several d b coarse of_b coarser ws raw fine is) (slice_index (get_or y.layouts.items i u).border.items j) ∙ r.sizes j f under ∙ (λ h. unsigned_abs (sym (flux_is level several d b coarse of_b coarser ws raw k w0 lt) h (get_or (masked_faces (box (get_or (run t.each k ps) i q)) (get_or y.layouts.items i u).mask.items) j f)) + 1);
+              sizes = λ j f under. merged_face (merged level several d b coarse of_b coarser ws raw fine is) (slice_index (get_or y.layouts.items i u).border.items j) ∙ r.sizes j f under ∙ (λ h. unsigned_abs (sym (flux_is level several d b coarse of_b coarser ws raw k w0 lt) h (get_or (masked_faces (box (get_or (run t.each k s.patches) i q)) (get_or y.layouts.items i u).mask.items) j f)) + 1);
             }
 
-      serves : ServesLot y (run t.each k ps)
+      serves : ServesLot y (run t.each k s.patches)
       serves = record {
         layouts = layout_count;
         words = sym of.words.totals;
@@ -282,48 +280,48 @@ module _ {p : Problem} {l : ℕ} {old : Masses} {ps : List Patch} {cells : List 
         room = of.serves.room;
         flows = of.serves.flows;
         to_words = λ i below.
-            let all = numbered_words y.words.items (run_flows level k) (flow_lists y.flows (length (run t.each k ps))) of.words.numbered in
-            subst (All (λ (x : FlowTo). x.word < length y.words.items)) (get_or-map-range_with_len (flows_at y.flows) 0 (length (run t.each k ps)) i i [] below (omega arith))
-            (all i [] (omega (arith, below, length-map-range_with_len (flows_at y.flows) 0 (length (run t.each k ps)))));
+            let all = numbered_words y.words.items (run_flows level k) (flow_lists y.flows (length (run t.each k s.patches))) of.words.numbered in
+            subst (All (λ (x : FlowTo). x.word < length y.words.items)) (get_or-map-range_with_len (flows_at y.flows) 0 (length (run t.each k s.patches)) i i [] below (omega arith))
+            (all i [] (omega (arith, below, length-map-range_with_len (flows_at y.flows) 0 (length (run t.each k s.patches)))));
         puts = λ i q u r below. puts_on i below q u r;
       }
 
       totals : (j : ℕ) → flows_to (size w) (flows_in w) j < 2 ^ 63
       totals j =
-          let same : flows_to (size w) (flows_in w) j ≡ flows_to sizes (flow_lists y.flows (length (run t.each k ps))) j = (λ i. flows_to (size_is level several d b coarse of_b coarser ws raw k w0 lt i) (flows_are i) j) in
-          let most = lists_most sizes y.words.items j (run_flows level k) (flow_lists y.flows (length (run t.each k ps))) of.words.numbered in
-          let whole : total (word_total sizes (slice_index y.words.items j)) (run_flows level k) ≡ total (adds level (slice_index y.words.items j)) (run t.each k ps) = total_map (word_total sizes (slice_index y.words.items j)) (λ (q : Patch). flows_of s (box q)) (run t.each k ps) in
+          let same : flows_to (size w) (flows_in w) j ≡ flows_to sizes (flow_lists y.flows (length (run t.each k s.patches))) j = (λ i. flows_to (size_is level several d b coarse of_b coarser ws raw k w0 lt i) (flows_are i) j) in
+          let most = lists_most sizes y.words.items j (run_flows level k) (flow_lists y.flows (length (run t.each k s.patches))) of.words.numbered in
+          let whole : total (word_total sizes (slice_index y.words.items j)) (run_flows level k) ≡ total (adds level (slice_index y.words.items j)) (run t.each k s.patches) = total_map (word_total sizes (slice_index y.words.items j)) (λ (q : Patch). flows_of s (box q)) (run t.each k s.patches) in
           omega (arith, same, most, whole, run_small level k (slice_index y.words.items j))
 
       borders : (i : ℕ) (q : Patch) (u : PatchLayout) → i < length (patches_of w) → ReadsBorder (planned_face plan) plan.places (flux w) (box (get_or (patches_of w) i q)) (get_or (layouts_of w) i u)
       borders i q u below =
-          let under : i < length (run t.each k ps) = subst (λ rs. i < length rs) patches_are below in
+          let under : i < length (run t.each k s.patches) = subst (λ rs. i < length rs) patches_are below in
           subst (λ (rs : List Patch). ReadsBorder (planned_face plan) plan.places (flux w) (box (get_or rs i q)) (get_or (layouts_of w) i u)) (sym patches_are)
-          (at_lot (λ z. ReadsBorder (planned_face plan) plan.places (flux w) (box (get_or (run t.each k ps) i q)) (get_or z.workspace.layouts.items i u)) (reads_border i under q u))
+          (at_lot (λ z. ReadsBorder (planned_face plan) plan.places (flux w) (box (get_or (run t.each k s.patches) i q)) (get_or z.workspace.layouts.items i u)) (reads_border i under q u))
 
       sends : MaySend w.lot.value
       sends = at_lot MaySend (all_may_send level d.all k w0.lot (omega (arith, lt, d.all.lots.count)))
 
       beside : MayStepBeside plan w
       beside = record {
-        inside = at_level (λ o n. All (λ q. IsInDomain (domain o n) (box q)) (patches_of w)) (at_run (All (λ q. IsInDomain (domain p l) (box q))) (of_all (λ q. IsInDomain (domain p l) (box q)) (λ j q there. all_lie p l ps level.inside j q there)));
+        inside = at_level (λ o n. All (λ q. IsInDomain (domain o n) (box q)) (patches_of w)) (at_run (All (λ q. IsInDomain (domain s.problem s.level) (box q))) (of_all (λ q. IsInDomain (domain s.problem s.level) (box q)) (λ j q there. all_lie s.problem s.level s.patches level.inside j q there)));
         numbers = numbers;
         of_level = of_level;
         fill = fill;
         values = values;
         shows = λ o fs found filled. (shows o fs found filled, owned o fs found filled);
         edges = edges;
-        serves = at_run (ServesLot w.lot.value.workspace) (at_lot (λ z. ServesLot z.workspace (run t.each k ps)) serves);
+        serves = at_run (ServesLot w.lot.value.workspace) (at_lot (λ z. ServesLot z.workspace (run t.each k s.patches)) serves);
         totals = totals;
         borders = borders;
         sends = sends;
       }
 
-      begins : MayBegin p plan w
+      begins : MayBegin s.problem plan w
       begins = record { problem = problem_is; raw = piece.raw; duty = subst (λ (duty : Duty). MayBeginIn duty plan w) (sym piece.of_duty) beside }
 
     -- all pieces may be run
-    pub may_be_run : MayBeRun p t.shape ws
+    pub may_be_run : MayBeRun s.problem t.shape ws
     may_be_run = record {
       plan = is_plan level several d b coarse of_b coarser ws raw fine is;
       begin = λ k w0 below. begins k w0 (omega (arith, below, raw.count, d.all.lots.count));

@@ -36,7 +36,7 @@ use Rattle.amr_advance.proofs.LotsHanded.{AreDelivered, AreRunLots, AreSentFrom,
 use Rattle.amr_advance.proofs.RunLists.{run_alone, run_is}
 use Rattle.amr_advance.proofs.Served.{plan_exchanged, plan_sent, same_inbox}
 
-module _ {p : Problem} {l : ℕ} {old : Masses} {ps : List Patch} {cells : List Cell} {next : Option Held} {t : Lots} (level : IsInStep p l old ps cells next t) where
+module _ {s : Around} {old : Masses} {t : Lots} (level : IsInStep s old t) where
   abbrev runs : ℕ
   runs = length t.lots.items
 
@@ -46,20 +46,20 @@ module _ {p : Problem} {l : ℕ} {old : Masses} {ps : List Patch} {cells : List 
   abbrev copies : ℕ → ℕ → Vec FrameCopy → List FrameCopy
   copies u k v = (get_or level.lots.parts.copies.items (u * length t.lots.items + k) v).items
 
-  pub taken : (u k : ℕ) (v : Vec FrameCopy) → u < runs → k < runs → All (IsTaken (run t.each u ps)) (copies u k v)
-  taken u k v from_there there = copies_taken (domain p l) ps ps level.lots.plan t.each runs parts level.lots.planned level.lots.parted (same_patches level) u k (run t.each u ps) v from_there there (run_is t.each u ps)
+  pub taken : (u k : ℕ) (v : Vec FrameCopy) → u < runs → k < runs → All (IsTaken (run t.each u s.patches)) (copies u k v)
+  taken u k v from_there there = copies_taken (domain s.problem s.level) s.patches s.patches level.lots.plan t.each runs parts level.lots.planned level.lots.parted (same_patches level) u k (run t.each u s.patches) v from_there there (run_is t.each u s.patches)
 
-  received : (u k : ℕ) (v : Vec FrameCopy) → u < runs → k < runs → All (IsReceived (run t.each k ps)) (copies u k v)
-  received u k v from_there there = copies_received (domain p l) ps ps level.lots.plan t.each runs parts level.lots.planned level.lots.parted (same_patches level) u k (run t.each k ps) v from_there there (run_is t.each k ps)
+  received : (u k : ℕ) (v : Vec FrameCopy) → u < runs → k < runs → All (IsReceived (run t.each k s.patches)) (copies u k v)
+  received u k v from_there there = copies_received (domain s.problem s.level) s.patches s.patches level.lots.plan t.each runs parts level.lots.planned level.lots.parted (same_patches level) u k (run t.each k s.patches) v from_there there (run_is t.each k s.patches)
 
-  beside : (k : ℕ) (v : Vec GhostSpan) → k < runs → All (IsSpanBeside (run t.each k ps)) (get_or level.lots.parts.outer.items k v).items
-  beside k v there = outer_beside (domain p l) ps ps level.lots.plan t.each runs parts level.lots.planned level.lots.parted (same_patches level) k (run t.each k ps) v there (run_is t.each k ps)
+  beside : (k : ℕ) (v : Vec GhostSpan) → k < runs → All (IsSpanBeside (run t.each k s.patches)) (get_or level.lots.parts.outer.items k v).items
+  beside k v there = outer_beside (domain s.problem s.level) s.patches s.patches level.lots.plan t.each runs parts level.lots.planned level.lots.parted (same_patches level) k (run t.each k s.patches) v there (run_is t.each k s.patches)
 
   -- ---- the messages packed
 
   module _ {lent xs : List (Box Lot)} (h : HaveRuns level lent xs) where
-    sends : (k : ℕ) (x : Box Lot) → k < runs → All (IsMessageFrom (run t.each k ps)) (get_or xs k x).value.workspace.outbox.items
-    sends k x lt = box_copies ((h.lots.of k x lt).serves.outbox) (IsTaken (run t.each k ps)) (get_or xs k x).value.workspace.copies (λ i there. taken k i (get_or xs k x).value.workspace.copies lt there)
+    sends : (k : ℕ) (x : Box Lot) → k < runs → All (IsMessageFrom (run t.each k s.patches)) (get_or xs k x).value.workspace.outbox.items
+    sends k x lt = box_copies ((h.lots.of k x lt).serves.outbox) (IsTaken (run t.each k s.patches)) (get_or xs k x).value.workspace.copies (λ i there. taken k i (get_or xs k x).value.workspace.copies lt there)
 
     may_send : (k : ℕ) (x : Box Lot) → k < runs → MaySend (get_or xs k x).value
     may_send k x lt = subst (λ rs. All (IsMessageFrom rs) (get_or xs k x).value.workspace.outbox.items) (sym (h.patches k x lt)) (sends k x lt)
@@ -68,12 +68,12 @@ module _ {p : Problem} {l : ℕ} {old : Masses} {ps : List Patch} {cells : List 
     all_may_send = λ k x lt. may_send k x (omega (arith, lt, h.lots.count))
 
     -- what carries the masses of the level is packed from the runs
-    already_sent : CarryMasses (masses_in ps) xs → AreSentFrom level lent xs
+    already_sent : CarryMasses (masses_in s.patches) xs → AreSentFrom level lent xs
     already_sent carried = record {
       all = h;
       packed = λ k x lt i m below.
           let y : Message = get_or (get_or xs k x).value.workspace.outbox.items i m in
-          carries_packed t.each k ps (run t.each k ps) level.apart (run_is t.each k ps) y.copies.items y.masses.items (sends k x lt i m below).0 (carried k x (omega (arith, lt, h.lots.count)) i m below);
+          carries_packed t.each k s.patches (run t.each k s.patches) level.apart (run_is t.each k s.patches) y.copies.items y.masses.items (sends k x lt i m below).0 (carried k x (omega (arith, lt, h.lots.count)) i m below);
     }
 
     -- and so is what they pack now
@@ -96,7 +96,7 @@ module _ {p : Problem} {l : ℕ} {old : Masses} {ps : List Patch} {cells : List 
         sent k x lt = AllZip-get_or (λ (a b : Box Lot). HasSent a.value b.value) xs ys k x x g (omega (arith, lt, h.lots.count))
 
   -- so they are sent in either case, by what was told of them before
-  pub sent_from : {lent : List (Box Lot)} → HaveRuns level lent lent → (CarryMasses (masses_in ps) t.lots.items → CarryMasses (masses_in ps) lent) → (t.packed ≡ true → CarryMasses (masses_in ps) t.lots.items) → (xs : List (Box Lot)) → (t.packed ≡ true → xs ≡ lent)
+  pub sent_from : {lent : List (Box Lot)} → HaveRuns level lent lent → (CarryMasses (masses_in s.patches) t.lots.items → CarryMasses (masses_in s.patches) lent) → (t.packed ≡ true → CarryMasses (masses_in s.patches) t.lots.items) → (xs : List (Box Lot)) → (t.packed ≡ true → xs ≡ lent)
       → (t.packed ≡ false → AllZip (λ (a b : Box Lot). HasSent a.value b.value) lent xs) → AreSentFrom level lent xs
   sent_from {lent = lent} h carried current xs kept sent = by_case t.packed refl
     where
@@ -122,7 +122,7 @@ module _ {p : Problem} {l : ℕ} {old : Masses} {ps : List Patch} {cells : List 
         (λ k x lt. box_crossed parts (λ u i. u * runs + i) k runs (get_or ys k x).value.workspace.inbox.items (λ u. (get_or xs u x).value.workspace.outbox.items) lt ((one_delivered k x lt).inbox ∙ (g.all.lots.of k x lt).serves.inbox.count) (λ u there. (g.all.lots.of u x there).serves.outbox) (λ u m there. comes u k x m there lt))
 
     -- each has the messages that it needs
-    messages_to : (k : ℕ) (x : Box Lot) → k < runs → AreMessagesTo parts t.each runs k ps (get_or ys k x).value.workspace.inbox.items
+    messages_to : (k : ℕ) (x : Box Lot) → k < runs → AreMessagesTo parts t.each runs k s.patches (get_or ys k x).value.workspace.inbox.items
     messages_to k x lt =
         let b = (delivered_lots.of k x lt).serves.inbox in
         record {
@@ -132,7 +132,7 @@ module _ {p : Problem} {l : ℕ} {old : Masses} {ps : List Patch} {cells : List 
           packed = λ u m us from_there is.
               let n = (g.all.lots.of u x from_there).serves.outbox.count in
               subst (IsPackedFrom us) (sym (comes u k x m from_there lt))
-              (subst (λ rs. IsPackedFrom rs (get_or (get_or xs u x).value.workspace.outbox.items k m)) (sym (run_alone t.each u ps us is)) (g.packed u x from_there k m (omega (arith, lt, n))));
+              (subst (λ rs. IsPackedFrom rs (get_or (get_or xs u x).value.workspace.outbox.items k m)) (sym (run_alone t.each u s.patches us is)) (g.packed u x from_there k m (omega (arith, lt, n))));
         }
 
     pub delivered_to : AreDelivered level lent ys
@@ -148,13 +148,13 @@ module _ {p : Problem} {l : ℕ} {old : Masses} {ps : List Patch} {cells : List 
   -- ---- what fills frames
 
   -- by a workspace of run k, of the run's patches or of others that are those
-  pub can_fill : (k : ℕ) → k < length t.lots.items → (x : Workspace) → ServesRun (around p l ps cells next) t.each k (length t.lots.items) level.lots.parts x → (rs : List Patch) → rs ≡ run t.each k ps → CanFill p l rs x
+  pub can_fill : (k : ℕ) → k < length t.lots.items → (x : Workspace) → ServesRun s t.each k (length t.lots.items) level.lots.parts x → (rs : List Patch) → rs ≡ run t.each k s.patches → CanFill s.problem s.level rs x
   can_fill k lt x of rs is = record {
     level = level.shallow;
-    spans = All-same (IsOuterSpan (domain p l)) x.outer.spans.items (get_or level.lots.parts.outer.items k x.outer.spans).items (of.outer x.outer.spans) (outer_spans (domain p l) ps level.lots.plan t.each runs parts level.lots.planned level.lots.parted k x.outer.spans lt);
-    outer = subst (λ rs. AreOuterBeside rs x.outer) (sym is) (All-same (IsSpanBeside (run t.each k ps)) x.outer.spans.items (get_or level.lots.parts.outer.items k x.outer.spans).items (of.outer x.outer.spans) (beside k x.outer.spans lt), of.outer_places);
-    copies = subst (λ rs. All (IsFrameCopy rs) x.copies.items) (sym is) (All-same (IsFrameCopy (run t.each k ps)) x.copies.items (copies k k x.copies) (of.copies x.copies) (λ i c below. (taken k k x.copies lt lt i c below, received k k x.copies lt lt i c below)));
-    messages = subst (λ rs. All (IsMessageTo rs) x.inbox.items) (sym is) (box_copies of.inbox (IsReceived (run t.each k ps)) x.copies (λ u there. received u k x.copies there lt));
+    spans = All-same (IsOuterSpan (domain s.problem s.level)) x.outer.spans.items (get_or level.lots.parts.outer.items k x.outer.spans).items (of.outer x.outer.spans) (outer_spans (domain s.problem s.level) s.patches level.lots.plan t.each runs parts level.lots.planned level.lots.parted k x.outer.spans lt);
+    outer = subst (λ rs. AreOuterBeside rs x.outer) (sym is) (All-same (IsSpanBeside (run t.each k s.patches)) x.outer.spans.items (get_or level.lots.parts.outer.items k x.outer.spans).items (of.outer x.outer.spans) (beside k x.outer.spans lt), of.outer_places);
+    copies = subst (λ rs. All (IsFrameCopy rs) x.copies.items) (sym is) (All-same (IsFrameCopy (run t.each k s.patches)) x.copies.items (copies k k x.copies) (of.copies x.copies) (λ i c below. (taken k k x.copies lt lt i c below, received k k x.copies lt lt i c below)));
+    messages = subst (λ rs. All (IsMessageTo rs) x.inbox.items) (sym is) (box_copies of.inbox (IsReceived (run t.each k s.patches)) x.copies (λ u there. received u k x.copies there lt));
   }
 
   module _ {lent xs : List (Box Lot)} (d : AreDelivered level lent xs) where
@@ -162,4 +162,4 @@ module _ {p : Problem} {l : ℕ} {old : Masses} {ps : List Patch} {cells : List 
     pub has_lists : HaveLists level lent → (k : ℕ) (x : Box Lot) → k < runs → AllZip AreEdgesIn (map box (get_or xs k x).value.patches.items) (lists_of (get_or xs k x).value.edges.items)
     has_lists lists k x lt =
         subst (λ rs. AllZip AreEdgesIn (map box rs) (lists_of (get_or xs k x).value.edges.items)) (sym (d.all.patches k x lt))
-        (subst (λ (es : Vec (Vec EdgeCell)). AllZip AreEdgesIn (map box (run t.each k ps)) (lists_of es.items)) (sym (d.all.edges k x lt)) (lists k x lt))
+        (subst (λ (es : Vec (Vec EdgeCell)). AllZip AreEdgesIn (map box (run t.each k s.patches)) (lists_of es.items)) (sym (d.all.edges k x lt)) (lists k x lt))

@@ -57,81 +57,79 @@ adds_same : (s : Around) (each : ℕ) (e : Face → ℕ) (word : ℕ) (qs : List
 adds_same s each e word [] = refl
 adds_same s each e word (q ∷ qs) = λ i. flows_total e word (flows_of s (box q)) i ∷ adds_same s each e word qs i
 
-module _ (p : Problem) (l : ℕ) (old : Masses) (ps : List Patch) (cells : List Cell) (next : Option Held) (each : ℕ) where
-  abbrev s : Around
-  s = around p l ps cells next
+module _ (s : Around) (old : Masses) (each : ℕ) where
 
   abbrev d : Domain
-  d = domain p l
+  d = domain s.problem s.level
 
   abbrev flow : Fluxes
-  flow = flux_at p l (masses_in ps) old
+  flow = flux_at s.problem s.level (masses_in s.whole) old
 
   abbrev size : Face → ℕ
-  size = plain_size p l (masses_in ps) old
+  size = plain_size s.problem s.level (masses_in s.whole) old
 
   abbrev fine : PlanOf
   fine = patch_plan s each size
 
   pub fine_plan : IsPlan fine → IsFinePlan s each size fine
-  fine_plan is = record { places = refl; words = refl; puts = puts_same s each size ps; adds = λ word. adds_same s each size word ps; is_plan = is }
+  fine_plan is = record { places = refl; words = refl; puts = puts_same s each size s.patches; adds = λ word. adds_same s each size word s.patches; is_plan = is }
 
   -- ---- what the patches put and read
 
-  module _ (few : l ≤ 4) (apart : ArePatchesApart ps) (inside : All (λ (q : Patch). IsInDomain (domain p l) (box q)) ps) (is : IsPlan fine) where
-    puts_here : (i : ℕ) (q : Patch) (v : List PutAt) → i < length ps → All (λ (x : PutAt). IsTrue (is_edge_face (box (get_or ps i q)) x.face)) (get_or (all_puts s each) i v)
+  module _ (few : s.level ≤ 4) (apart : ArePatchesApart s.patches) (inside : All (λ (q : Patch). IsInDomain (domain s.problem s.level) (box q)) s.patches) (is : IsPlan fine) where
+    puts_here : (i : ℕ) (q : Patch) (v : List PutAt) → i < length s.patches → All (λ (x : PutAt). IsTrue (is_edge_face (box (get_or s.patches i q)) x.face)) (get_or (all_puts s each) i v)
     puts_here i q v lt =
-        let here : get_or (all_puts s each) i v ≡ puts_of d ps each (box (get_or ps i q)) = get_or-map (λ (r : Patch). puts_of d ps each (box r)) ps i q v lt in
-        subst (All (λ (x : PutAt). IsTrue (is_edge_face (box (get_or ps i q)) x.face))) (sym here)
-        (puts_on_edges p l ps each few apart inside i q lt)
+        let here : get_or (all_puts s each) i v ≡ puts_of d s.patches each (box (get_or s.patches i q)) = get_or-map (λ (r : Patch). puts_of d s.patches each (box r)) s.patches i q v lt in
+        subst (All (λ (x : PutAt). IsTrue (is_edge_face (box (get_or s.patches i q)) x.face))) (sym here)
+        (puts_on_edges s.problem s.level s.patches each few apart inside i q lt)
 
-    module _ (i : ℕ) (q : Patch) (lt : i < length ps) (j : ℕ) (z : Face) (below : j < length (borders_of d ps each (box (get_or ps i q)))) where
+    module _ (i : ℕ) (q : Patch) (lt : i < length s.patches) (j : ℕ) (z : Face) (below : j < length (borders_of d s.patches each (box (get_or s.patches i q)))) where
       -- the face that is read, and the place
       abbrev g : Face
-      g = get_or (borders_of d ps each (box (get_or ps i q))) j z
+      g = get_or (borders_of d s.patches each (box (get_or s.patches i q))) j z
 
       abbrev place : ℕ
-      place = slice_index (border_places d ps each i) j
+      place = slice_index (border_places d s.patches each i) j
 
-      put : IsPut d ps each place (home_face d g)
-      put = put_there d ps each i j q z lt below
+      put : IsPut d s.patches each place (home_face d g)
+      put = put_there d s.patches each i j q z lt below
 
       abbrev owner : Patch
-      owner = get_or ps put.owner q
+      owner = get_or s.patches put.owner q
 
       abbrev x : PutAt
       x = record { place = place; face = home_face d g }
 
-      found : Contains (puts_of d ps each (box owner)) x
+      found : Contains (puts_of d s.patches each (box owner)) x
       found = put.put q
 
-      task : posts_at fine put.owner ≡ map (put_post size) (puts_of d ps each (box owner))
-      task = ap (λ (t : Task). t.puts) (get_or-map (patch_task s each size) ps put.owner q no_task put.there)
+      task : posts_at fine put.owner ≡ map (put_post size) (puts_of d s.patches each (box owner))
+      task = ap (λ (t : Task). t.puts) (get_or-map (patch_task s each size) s.patches put.owner q no_task put.there)
 
       within : found.0 < length (posts_at fine put.owner)
-      within = omega (arith, found.1, ap length task, length-map (puts_of d ps each (box owner)) (put_post size))
+      within = omega (arith, found.1, ap length task, length-map (puts_of d s.patches each (box owner)) (put_post size))
 
       post : put_at fine put.owner found.0 ≡ put_post size x
-      post = ap (λ xs. get_or xs found.0 no_post) task ∙ get_or-map (put_post size) (puts_of d ps each (box owner)) found.0 x no_post found.1 ∙ ap (put_post size) found.2
+      post = ap (λ xs. get_or xs found.0 no_post) task ∙ get_or-map (put_post size) (puts_of d s.patches each (box owner)) found.0 x no_post found.1 ∙ ap (put_post size) found.2
 
       pub read_size : planned_face fine place ≡ unsigned_abs (flow g) + 1
       read_size =
           subst (λ (y : Post). planned_face fine y.at ≡ y.amount + 1) post (put_is_planned fine is put.owner found.0 within)
-          ∙ ap (λ n. unsigned_abs n + 1) (fluxes_repeat p l (masses_in ps) old g few)
+          ∙ ap (λ n. unsigned_abs n + 1) (fluxes_repeat s.problem s.level (masses_in s.whole) old g few)
 
       pub read_there : place < fine.places
       read_there = subst (λ (y : Post). y.at < fine.places) post (is.puts_in_range put.owner found.0 within)
 
-    reads_here : (i : ℕ) (q : Patch) (t : PatchLayout) (v : List ℕ) → i < length ps → t.border.items ≡ get_or (all_places_read s each) i v → HasMask d ps each (get_or ps i q) t → ReadsBorder (planned_face fine) fine.places flow (box (get_or ps i q)) t
+    reads_here : (i : ℕ) (q : Patch) (t : PatchLayout) (v : List ℕ) → i < length s.patches → t.border.items ≡ get_or (all_places_read s each) i v → HasMask d s.patches each (get_or s.patches i q) t → ReadsBorder (planned_face fine) fine.places flow (box (get_or s.patches i q)) t
     reads_here i q t v lt border mask =
-        let many = length (borders_of d ps each (box (get_or ps i q))) in
-        let places : t.border.items ≡ border_places d ps each i = border ∙ get_or-map-range_with_len (border_places d ps each) 0 (length ps) i i v lt (omega arith) in
-        let count : length t.border.items ≡ many = ap length (places ∙ places_count d ps each i q lt) ∙ length-range_with_len (places_before d ps each i) many in
+        let many = length (borders_of d s.patches each (box (get_or s.patches i q))) in
+        let places : t.border.items ≡ border_places d s.patches each i = border ∙ get_or-map-range_with_len (border_places d s.patches each) 0 (length s.patches) i i v lt (omega arith) in
+        let count : length t.border.items ≡ many = ap length (places ∙ places_count d s.patches each i q lt) ∙ length-range_with_len (places_before d s.patches each i) many in
         record {
           count = count ∙ sym (ap length mask);
           within = λ j y below.
               let there = read_there i q lt j no_face (omega (arith, below, count)) in
-              let here : get_or t.border.items j y ≡ slice_index (border_places d ps each i) j = same_default t.border.items j y 0 below ∙ ap (λ (xs : List ℕ). slice_index xs j) places in
+              let here : get_or t.border.items j y ≡ slice_index (border_places d s.patches each i) j = same_default t.border.items j y 0 below ∙ ap (λ (xs : List ℕ). slice_index xs j) places in
               omega (arith, there, here);
           sizes = λ j f below.
               ap (λ (xs : List ℕ). planned_face fine (slice_index xs j)) places ∙ read_size i q lt j f (omega (arith, below, count))
@@ -140,8 +138,8 @@ module _ (p : Problem) (l : ℕ) (old : Masses) (ps : List Patch) (cells : List 
 
     pub are_planned : ArePlanned s each flow fine
     are_planned = record {
-      put_count = length-map ps (λ (q : Patch). puts_of d ps each (box q));
-      read_count = length-map-range_with_len (border_places d ps each) 0 (length ps);
+      put_count = length-map s.patches (λ (q : Patch). puts_of d s.patches each (box q));
+      read_count = length-map-range_with_len (border_places d s.patches each) 0 (length s.patches);
       puts = puts_here;
       reads = reads_here;
     }

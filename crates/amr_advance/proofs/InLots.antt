@@ -67,12 +67,10 @@ pub record IsInStep (p : Problem) (l : ℕ) (old : Masses) (ps : List Patch) (ce
 pub in_step : (p : Problem) (l : ℕ) (old : Masses) (ps : List Patch) (cells : List Cell) (next : Option Held) (t : Lots) → MayStepLevel (around p l ps cells next) old → AreLots (around p l ps cells next) t → IsInStep p l old ps cells next t
 in_step p l old ps cells next t may lots = record { shallow = may.level; apart = may.apart; inside = may.inside; fits = may.fits; lots = lots }
 
-module _ {p : Problem} {l : ℕ} {old : Masses} {ps : List Patch} {cells : List Cell} {next : Option Held} {t : Lots} (level : IsInStep p l old ps cells next t) where
+module _ {s : Around} {old : Masses} {t : Lots} (level : IsInStep s old t) where
   abbrev e : Fluxes
-  e = flux_at p l (masses_in ps) old
+  e = flux_at s.problem s.level (masses_in s.whole) old
 
-  abbrev s : Around
-  s = around p l ps cells next
 
   abbrev runs : ℕ
   runs = length t.lots.items
@@ -82,72 +80,72 @@ module _ {p : Problem} {l : ℕ} {old : Masses} {ps : List Patch} {cells : List 
 
   -- what a patch adds to a word
   abbrev pub adds : ℕ → Patch → ℕ
-  adds word q = word_total (plain_size p l (masses_in ps) old) word (flows_of (around p l ps cells next) (box q))
+  adds word q = word_total (plain_size s.problem s.level (masses_in s.whole) old) word (flows_of s (box q))
 
   -- the flows of each patch of a run
   abbrev pub run_flows : ℕ → List (List FlowTo)
-  run_flows k = map (λ (q : Patch). flows_of (around p l ps cells next) (box q)) (run t.each k ps)
+  run_flows k = map (λ (q : Patch). flows_of s (box q)) (run t.each k s.patches)
 
-  pub totals_small : (word : ℕ) → level_total (around p l ps cells next) (plain_size p l (masses_in ps) old) word ≤ 2 ^ 61
-  totals_small word = omega (arith, level_few s (plain_size p l (masses_in ps) old) level.fits.fluxes word ps, level.lots.edges)
+  pub totals_small : (word : ℕ) → level_total s (plain_size s.problem s.level (masses_in s.whole) old) word ≤ 2 ^ 61
+  totals_small word = omega (arith, level_few s (plain_size s.problem s.level (masses_in s.whole) old) level.fits.fluxes word s.patches, level.lots.edges)
 
   -- no run adds more
-  pub run_small : (k word : ℕ) → total (adds word) (run t.each k ps) ≤ 2 ^ 61
-  run_small k word = omega (arith, total_run_most (adds word) t.each k ps, totals_small word)
+  pub run_small : (k word : ℕ) → total (adds word) (run t.each k s.patches) ≤ 2 ^ 61
+  run_small k word = omega (arith, total_run_most (adds word) t.each k s.patches, totals_small word)
 
   -- ---- the patches of a run with their frames filled, by outer values, by copies within the run and by messages
 
-  module _ (k : ℕ) (lt : k < length t.lots.items) (x : Workspace) (of : ServesRun (around p l ps cells next) t.each k (length t.lots.items) level.lots.parts x) (sent : AreMessagesTo level.lots.parts t.each (length t.lots.items) k ps x.inbox.items)
-      (given : OuterGhosts) (found : HasFoundOuter p l x.outer given) (values : HasValuesOrLevel p l old x.outer) (fs : List Patch) (filled : AreFilled x given (run t.each k ps) fs) where
+  module _ (k : ℕ) (lt : k < length t.lots.items) (x : Workspace) (of : ServesRun s t.each k (length t.lots.items) level.lots.parts x) (sent : AreMessagesTo level.lots.parts t.each (length t.lots.items) k s.patches x.inbox.items)
+      (given : OuterGhosts) (found : HasFoundOuter s.problem s.level x.outer given) (values : HasValuesOrLevel s.problem s.level old x.outer) (fs : List Patch) (filled : AreFilled x given (run t.each k s.patches) fs) where
     -- the values of its outer ghost cells are those that the level has
     spans : given.spans.items ≡ (get_or level.lots.parts.outer.items k given.spans).items
     spans = (λ i. (found.spans i).items) ∙ of.outer given.spans
 
-    pub valued : HasValuesBy p l old given
+    pub valued : HasValuesBy s.problem s.level old given
     valued = found.values old values
 
-    outer_for : AreOuterFor (value_at p l (masses_in ps) old) (is_of_level p l (masses_in ps)) given
-    outer_for = outer_valued p l old ps level.lots.plan t.each runs parts level.lots.planned level.lots.parted level.inside k given.spans given lt spans valued
+    outer_for : AreOuterFor (value_at s.problem s.level (masses_in s.whole) old) (is_of_level s.problem s.level (masses_in s.whole)) given
+    outer_for = outer_valued s.problem s.level old s.patches level.lots.plan t.each runs parts level.lots.planned level.lots.parted level.inside k given.spans given lt spans valued
 
-    by_parts : HasFilled given (get_or level.lots.parts.copies.items (k * length t.lots.items + k) x.copies).items x.inbox.items (run t.each k ps) fs
-    by_parts = subst (λ cs. HasFilled given cs x.inbox.items (run t.each k ps) fs) (of.copies x.copies) filled
+    by_parts : HasFilled given (get_or level.lots.parts.copies.items (k * length t.lots.items + k) x.copies).items x.inbox.items (run t.each k s.patches) fs
+    by_parts = subst (λ cs. HasFilled given cs x.inbox.items (run t.each k s.patches) fs) (of.copies x.copies) filled
 
-    pub fs_count : length fs ≡ length (run t.each k ps)
-    fs_count = sym (length_all_zip KeepsCells (run t.each k ps) fs filled.kept)
+    pub fs_count : length fs ≡ length (run t.each k s.patches)
+    fs_count = sym (length_all_zip KeepsCells (run t.each k s.patches) fs filled.kept)
 
     -- their boxes are those of the run
-    pub fs_boxes : map box fs ≡ map box (run t.each k ps)
-    fs_boxes = zip_boxes (run t.each k ps) fs filled.kept
+    pub fs_boxes : map box fs ≡ map box (run t.each k s.patches)
+    fs_boxes = zip_boxes (run t.each k s.patches) fs filled.kept
 
     module _ (i : ℕ) (q : Patch) (lt_i : i < length fs) where
       abbrev j : ℕ
       j = k * t.each + i
 
-      in_run : i < length (run t.each k ps)
+      in_run : i < length (run t.each k s.patches)
       in_run = let n = fs_count in omega (arith, lt_i, n)
 
-      in_ps : j < length ps
-      in_ps = run_place t.each ps k i in_run
+      in_ps : j < length s.patches
+      in_ps = run_place t.each s.patches k i in_run
 
-      keeps : KeepsCells (get_or ps j q) (get_or fs i q)
-      keeps = subst (λ (x : Patch). KeepsCells x (get_or fs i q)) (run_at t.each ps k i q in_run) (AllZip-get_or KeepsCells (run t.each k ps) fs i q q filled.kept in_run)
+      keeps : KeepsCells (get_or s.patches j q) (get_or fs i q)
+      keeps = subst (λ (x : Patch). KeepsCells x (get_or fs i q)) (run_at t.each s.patches k i q in_run) (AllZip-get_or KeepsCells (run t.each k s.patches) fs i q q filled.kept in_run)
 
-      frame : HasFrame p l (masses_in ps) old (get_or fs i q)
+      frame : HasFrame s.problem s.level (masses_in s.whole) old (get_or fs i q)
       frame =
-          run_frames p l old ps ps (run t.each k ps) fs level.lots.plan t.each runs k level.lots.parts x.copies x.inbox.items level.lots.planned level.lots.parted (zip_refl KeepsCells keeps_refl ps) lt (run_is t.each k ps) level.apart
+          run_frames s.problem s.level old s.patches s.patches (run t.each k s.patches) fs level.lots.plan t.each runs k level.lots.parts x.copies x.inbox.items level.lots.planned level.lots.parted (zip_refl KeepsCells keeps_refl s.patches) lt (run_is t.each k s.patches) level.apart
           given.spans given spans outer_for sent by_parts i q in_run
 
-      shows : ShowsValues p l (masses_in ps) old (get_or fs i q)
-      shows = OnePatch.frame_shows p l old ps level.apart level.inside j q in_ps (get_or fs i q) keeps.of_box keeps.masses frame
+      shows : ShowsValues s.problem s.level (masses_in s.whole) old (get_or fs i q)
+      shows = OnePatch.frame_shows s.problem s.level old s.patches level.apart level.inside j q in_ps (get_or fs i q) keeps.of_box keeps.masses frame
 
-      box_is : box (get_or fs i q) ≡ box (get_or (run t.each k ps) i q)
-      box_is = keeps.of_box ∙ ap box (sym (run_at t.each ps k i q in_run))
+      box_is : box (get_or fs i q) ≡ box (get_or (run t.each k s.patches) i q)
+      box_is = keeps.of_box ∙ ap box (sym (run_at t.each s.patches k i q in_run))
 
-      lies : IsInDomain (domain p l) (box (get_or fs i q))
-      lies = OnePatch.lies p l old ps level.apart level.inside j q in_ps (get_or fs i q) keeps.of_box keeps.masses
+      lies : IsInDomain (domain s.problem s.level) (box (get_or fs i q))
+      lies = OnePatch.lies s.problem s.level old s.patches level.apart level.inside j q in_ps (get_or fs i q) keeps.of_box keeps.masses
 
-      may : MayStep p l (get_or fs i q)
-      may = OnePatch.may_step p l old ps level.apart level.inside j q in_ps (get_or fs i q) keeps.of_box keeps.masses shows level.shallow level.fits
+      may : MayStep s.problem s.level (get_or fs i q)
+      may = OnePatch.may_step s.problem s.level old s.patches level.apart level.inside j q in_ps (get_or fs i q) keeps.of_box keeps.masses shows level.shallow level.fits
 
       on_edges : All (λ (x : FlowTo). (is_edge_face (box (get_or fs i q)) x.face ≡ true) × (is_face_of (box (get_or fs i q)) x.face ≡ true)) (flows_of s (box (get_or fs i q)))
       on_edges = λ n x below.
@@ -158,36 +156,36 @@ module _ {p : Problem} {l : ℕ} {old : Masses} {ps : List Patch} {cells : List 
       owned = λ n x below. (on_edges n x below).0
 
       flows_is : (d : List FlowTo) → get_or (run_flows k) i d ≡ flows_of s (box (get_or fs i q))
-      flows_is d = get_or-map (λ (r : Patch). flows_of s (box r)) (run t.each k ps) i q d in_run ∙ ap (flows_of s) (sym box_is)
+      flows_is d = get_or-map (λ (r : Patch). flows_of s (box r)) (run t.each k s.patches) i q d in_run ∙ ap (flows_of s) (sym box_is)
 
       -- what it adds
-      adds_here : (word : ℕ) (xs : List FlowTo) → xs ≡ flows_of s (box (get_or fs i q)) → adds_to p l word (get_or fs i q) xs ≡ adds word (get_or (run t.each k ps) i q)
+      adds_here : (word : ℕ) (xs : List FlowTo) → xs ≡ flows_of s (box (get_or fs i q)) → adds_to s.problem s.level word (get_or fs i q) xs ≡ adds word (get_or (run t.each k s.patches) i q)
       adds_here word xs is =
-          ap (word_total (λ (f : Face). unsigned_abs (flux_beside p l (get_or fs i q) f)) word) is
-          ∙ same_words (λ (f : Face). unsigned_abs (flux_beside p l (get_or fs i q) f)) (plain_size p l (masses_in ps) old) word (flows_of s (box (get_or fs i q)))
-          (λ n x below. ap unsigned_abs (OnePatch.plain_at p l old ps level.apart level.inside j q in_ps (get_or fs i q) keeps.of_box keeps.masses shows (get_or (flows_of s (box (get_or fs i q))) n x).face (on_edges n x below).1))
-          ∙ ap (λ (b : Extent). word_total (plain_size p l (masses_in ps) old) word (flows_of s b)) box_is
+          ap (word_total (λ (f : Face). unsigned_abs (flux_beside s.problem s.level (get_or fs i q) f)) word) is
+          ∙ same_words (λ (f : Face). unsigned_abs (flux_beside s.problem s.level (get_or fs i q) f)) (plain_size s.problem s.level (masses_in s.whole) old) word (flows_of s (box (get_or fs i q)))
+          (λ n x below. ap unsigned_abs (OnePatch.plain_at s.problem s.level old s.patches level.apart level.inside j q in_ps (get_or fs i q) keeps.of_box keeps.masses shows (get_or (flows_of s (box (get_or fs i q))) n x).face (on_edges n x below).1))
+          ∙ ap (λ (b : Extent). word_total (plain_size s.problem s.level (masses_in s.whole) old) word (flows_of s b)) box_is
 
-      pub steps : (r : Patch) → HasStepped p l (get_or fs i q) r → IsStepped (flux_at p l (masses_in ps) old) (get_or ps (k * t.each + i) q) r
-      steps r h = OnePatch.steps p l old ps level.apart level.inside j q in_ps (get_or fs i q) keeps.of_box keeps.masses shows r h.of_box h.masses
+      pub steps : (r : Patch) → HasStepped s.problem s.level (get_or fs i q) r → IsStepped (flux_at s.problem s.level (masses_in s.whole) old) (get_or s.patches (k * t.each + i) q) r
+      steps r h = OnePatch.steps s.problem s.level old s.patches level.apart level.inside j q in_ps (get_or fs i q) keeps.of_box keeps.masses shows r h.of_box h.masses
 
-    pub all_show : All (ShowsValues p l (masses_in ps) old) fs
+    pub all_show : All (ShowsValues s.problem s.level (masses_in s.whole) old) fs
     all_show = λ i q lt_i. shows i q lt_i
 
-    pub all_inside : All (λ q. IsInDomain (domain p l) (box q)) fs
+    pub all_inside : All (λ q. IsInDomain (domain s.problem s.level) (box q)) fs
     all_inside = λ i q lt_i. lies i q lt_i
 
-    pub all_may : All (MayStep p l) fs
+    pub all_may : All (MayStep s.problem s.level) fs
     all_may = λ i q lt_i. may i q lt_i
 
-    pub all_room : (n : ℕ) → All (λ q. width (box q) ≤ n) (run t.each k ps) → All (λ q. width (box q) ≤ n) fs
+    pub all_room : (n : ℕ) → All (λ q. width (box q) ≤ n) (run t.each k s.patches) → All (λ q. width (box q) ≤ n) fs
     all_room n h = λ i q lt_i. let r = h i q (in_run i q lt_i) in omega (arith, r, ap width (box_is i q lt_i))
 
     pub lists_count : length (run_flows k) ≡ length fs
-    lists_count = length-map (run t.each k ps) (λ (q : Patch). flows_of s (box q)) ∙ sym fs_count
+    lists_count = length-map (run t.each k s.patches) (λ (q : Patch). flows_of s (box q)) ∙ sym fs_count
 
-    pub totals_are : (word : ℕ) → lot_total p l fs (run_flows k) word ≡ total (adds word) (run t.each k ps)
-    totals_are word = lot_total_is p l word (adds word) fs (run t.each k ps) (run_flows k) (λ i q xs lt_i. adds_here i q lt_i word (get_or (run_flows k) i xs) (flows_is i q lt_i xs)) lists_count (sym fs_count)
+    pub totals_are : (word : ℕ) → lot_total s.problem s.level fs (run_flows k) word ≡ total (adds word) (run t.each k s.patches)
+    totals_are word = lot_total_is s.problem s.level word (adds word) fs (run t.each k s.patches) (run_flows k) (λ i q xs lt_i. adds_here i q lt_i word (get_or (run_flows k) i xs) (flows_is i q lt_i xs)) lists_count (sym fs_count)
 
     pub all_owned : AllZip AreEdgeFlows fs (run_flows k)
     all_owned = zip_from AreEdgeFlows fs (run_flows k) lists_count (λ i q d lt_i. subst (AreEdgeFlows (get_or fs i q)) (sym (flows_is i q lt_i d)) (owned i q lt_i))

@@ -52,9 +52,7 @@ all_exchanged v lent xs is h = when_lent AreExchanged v lent xs is (length_all_z
 
 -- ---- the lots of a level, up to where they make their step
 
-module _ {p : Problem} {l : ℕ} {old : Masses} {ps : List Patch} {cells : List Cell} {next : Option Held} {t : Lots} (level : IsInStep p l old ps cells next t) where
-  abbrev s : Around
-  s = around p l ps cells next
+module _ {s : Around} {old : Masses} {t : Lots} (level : IsInStep s old t) where
 
   abbrev runs : ℕ
   runs = length t.lots.items
@@ -62,40 +60,40 @@ module _ {p : Problem} {l : ℕ} {old : Masses} {ps : List Patch} {cells : List 
   abbrev parts : FrameParts
   parts = level.lots.parts
 
-  pub same_patches : AllZip KeepsCells ps ps
-  same_patches = zip_refl KeepsCells keeps_refl ps
+  pub same_patches : AllZip KeepsCells s.patches s.patches
+  same_patches = zip_refl KeepsCells keeps_refl s.patches
 
   -- lots, one for each run, each with the values of its outer ghost cells or a level by which it can find them
   pub record AreRunLots (xs : List (Box Lot)) : Type 0 where
     pub count : length xs ≡ runs
     pub of : (k : ℕ) (x : Box Lot) → k < runs → IsWorkspaceOf s t.each k runs parts (get_or xs k x).value.workspace
-    pub values : (k : ℕ) (x : Box Lot) → k < runs → HasValuesOrLevel p l old (get_or xs k x).value.workspace.outer
-    pub before : (k : ℕ) (x : Box Lot) → k < runs → length (get_or xs k x).value.before.items ≡ length (run t.each k ps)
+    pub values : (k : ℕ) (x : Box Lot) → k < runs → HasValuesOrLevel s.problem s.level old (get_or xs k x).value.workspace.outer
+    pub before : (k : ℕ) (x : Box Lot) → k < runs → length (get_or xs k x).value.before.items ≡ length (run t.each k s.patches)
 
   -- each with its run of the patches, and the lists of register cells of these lots
   pub record HaveRuns (lent xs : List (Box Lot)) : Type 0 where
     pub lots : AreRunLots xs
-    pub patches : (k : ℕ) (x : Box Lot) → k < runs → (get_or xs k x).value.patches.items ≡ run t.each k ps
+    pub patches : (k : ℕ) (x : Box Lot) → k < runs → (get_or xs k x).value.patches.items ≡ run t.each k s.patches
     pub edges : (k : ℕ) (x : Box Lot) → k < runs → (get_or xs k x).value.edges ≡ (get_or lent k x).value.edges
 
   -- and masses of it packed for the others
   pub record AreSentFrom (lent xs : List (Box Lot)) : Type 0 where
     pub all : HaveRuns lent xs
-    pub packed : (k : ℕ) (x : Box Lot) → k < runs → All (IsPackedFrom (run t.each k ps)) (get_or xs k x).value.workspace.outbox.items
+    pub packed : (k : ℕ) (x : Box Lot) → k < runs → All (IsPackedFrom (run t.each k s.patches)) (get_or xs k x).value.workspace.outbox.items
 
   -- lots that have what they need for their step
   pub record AreDelivered (lent xs : List (Box Lot)) : Type 0 where
     pub all : HaveRuns lent xs
-    pub messages : (k : ℕ) (x : Box Lot) → k < runs → AreMessagesTo parts t.each runs k ps (get_or xs k x).value.workspace.inbox.items
+    pub messages : (k : ℕ) (x : Box Lot) → k < runs → AreMessagesTo parts t.each runs k s.patches (get_or xs k x).value.workspace.inbox.items
 
   -- lots with empty lists of register cells, one for each patch
   pub record HaveNoEdges (xs : List (Box Lot)) : Type 0 where
-    pub count : (k : ℕ) (x : Box Lot) → k < runs → length (get_or xs k x).value.edges.items ≡ length (run t.each k ps)
+    pub count : (k : ℕ) (x : Box Lot) → k < runs → length (get_or xs k x).value.edges.items ≡ length (run t.each k s.patches)
     pub empty : (k : ℕ) (x : Box Lot) → k < runs → AreEmpty (get_or xs k x).value.edges.items
 
   -- lots with lists that have cells of their patches
   abbrev pub HaveLists : List (Box Lot) → Type 0
-  HaveLists lent = (k : ℕ) (x : Box Lot) → k < runs → AllZip AreEdgesIn (map box (run t.each k ps)) (lists_of (get_or lent k x).value.edges.items)
+  HaveLists lent = (k : ℕ) (x : Box Lot) → k < runs → AllZip AreEdgesIn (map box (run t.each k s.patches)) (lists_of (get_or lent k x).value.edges.items)
 
   -- each has a message for each, and one from each
   pub boxes : (xs : List (Box Lot)) → AreRunLots xs → All (HasBoxes (length xs)) xs
@@ -112,13 +110,13 @@ module _ {p : Problem} {l : ℕ} {old : Masses} {ps : List Patch} {cells : List 
   still_lots xs ys lots same plan outer before outbox inbox = record {
     count = sym same ∙ lots.count;
     of = λ k x lt. still_workspace (lots.of k x lt) (get_or ys k x).value.workspace (plan k x lt) (outbox k x lt) (inbox k x lt);
-    values = λ k x lt. subst (HasValuesOrLevel p l old) (sym (outer k x lt)) (lots.values k x lt);
+    values = λ k x lt. subst (HasValuesOrLevel s.problem s.level old) (sym (outer k x lt)) (lots.values k x lt);
     before = λ k x lt. (λ i. length (before k x lt i).items) ∙ lots.before k x lt;
   }
 
   -- ---- at the start
 
-  module _ (several : AreSeveralLots s parts t) (ready : All (λ (x : Box Lot). HasValuesOrLevel p l old x.value.workspace.outer) t.lots.items) where
+  module _ (several : AreSeveralLots s parts t) (ready : All (λ (x : Box Lot). HasValuesOrLevel s.problem s.level old x.value.workspace.outer) t.lots.items) where
     pub first_lots : AreRunLots t.lots.items
     first_lots = record {
       count = refl;
@@ -131,7 +129,7 @@ module _ {p : Problem} {l : ℕ} {old : Masses} {ps : List Patch} {cells : List 
     first_empty = record { count = λ k x lt. (several.lots k x lt).others.edges; empty = λ k x lt. (several.lots k x lt).others.no_edges }
 
     -- they may be handed as many patches
-    pub first_counts : (k : ℕ) (x : Box Lot) → k < length t.lots.items → length (get_or t.lots.items k x).value.patches.items ≡ length (run t.each k ps)
+    pub first_counts : (k : ℕ) (x : Box Lot) → k < length t.lots.items → length (get_or t.lots.items k x).value.patches.items ≡ length (run t.each k s.patches)
     first_counts k x lt = (several.lots k x lt).others.count
 
   -- ---- their patches
@@ -177,25 +175,25 @@ module _ {p : Problem} {l : ℕ} {old : Masses} {ps : List Patch} {cells : List 
         (λ k x lt. same_inbox (lots.of k x lt).serves (get_or ys k x).value.workspace (plan_lent (get_or xs k x) (get_or ys k x) (one_lent k x lt)) (ap (λ (z : Workspace). z.inbox) (workspace_lent k x lt)))
 
     -- where they had none, they have those of the level, if it has any
-    module _ (none : HaveNoEdges xs) (fit : AreEdgesFor (map box ps) (lists_of es)) where
+    module _ (none : HaveNoEdges xs) (fit : AreEdgesFor (map box s.patches) (lists_of es)) where
       pub lent_lists : HaveLists ys
       lent_lists k x lt = by_count (length es) refl
         where
-          by_count : (n : ℕ) → length es ≡ n → AllZip AreEdgesIn (map box (run t.each k ps)) (lists_of (get_or ys k x).value.edges.items)
+          by_count : (n : ℕ) → length es ≡ n → AllZip AreEdgesIn (map box (run t.each k s.patches)) (lists_of (get_or ys k x).value.edges.items)
           by_count zero e =
-              subst (λ (zs : List (Box Lot)). AllZip AreEdgesIn (map box (run t.each k ps)) (lists_of (get_or zs k x).value.edges.items)) (sym (h.none e))
-              (empty_in (map box (run t.each k ps)) (get_or xs k x).value.edges.items (none.count k x lt ∙ sym (length-map (run t.each k ps) box)) (none.empty k x lt))
+              subst (λ (zs : List (Box Lot)). AllZip AreEdgesIn (map box (run t.each k s.patches)) (lists_of (get_or zs k x).value.edges.items)) (sym (h.none e))
+              (empty_in (map box (run t.each k s.patches)) (get_or xs k x).value.edges.items (none.count k x lt ∙ sym (length-map (run t.each k s.patches) box)) (none.empty k x lt))
           by_count (suc n) e =
               let some : 0 < length es = omega (arith, e) in
-              subst (λ vs. AllZip AreEdgesIn (map box (run t.each k ps)) (lists_of vs)) (sym (h.handed some k x (omega (arith, lt, lots.count)))) (run_in t.each ps es fit some k)
+              subst (λ vs. AllZip AreEdgesIn (map box (run t.each k s.patches)) (lists_of vs)) (sym (h.handed some k x (omega (arith, lt, lots.count)))) (run_in t.each s.patches es fit some k)
 
   -- lots that have none have room for one list for each patch, if the level has any
-  pub list_counts : {xs : List (Box Lot)} (es : List (Vec EdgeCell)) → AreRunLots xs → HaveNoEdges xs → AreEdgesFor (map box ps) (lists_of es) → 0 < length es → (k : ℕ) (x : Box Lot) → k < length xs → length (get_or xs k x).value.edges.items ≡ length (run t.each k es)
-  list_counts es lots none fit some k x lt = none.count k x (omega (arith, lt, lots.count)) ∙ sym (same_run t.each k es ps (as_many t.each ps es fit some))
+  pub list_counts : {xs : List (Box Lot)} (es : List (Vec EdgeCell)) → AreRunLots xs → HaveNoEdges xs → AreEdgesFor (map box s.patches) (lists_of es) → 0 < length es → (k : ℕ) (x : Box Lot) → k < length xs → length (get_or xs k x).value.edges.items ≡ length (run t.each k es)
+  list_counts es lots none fit some k x lt = none.count k x (omega (arith, lt, lots.count)) ∙ sym (same_run t.each k es s.patches (as_many t.each s.patches es fit some))
 
   -- ---- all of it before they are served
 
-  module _ {first handed lent : List (Box Lot)} (lots : AreRunLots first) (h : AreHanded t.each ps first handed) {es ds : List (Vec EdgeCell)} (g : AreLent t.each es ds handed lent) where
+  module _ {first handed lent : List (Box Lot)} (lots : AreRunLots first) (h : AreHanded t.each s.patches first handed) {es ds : List (Vec EdgeCell)} (g : AreLent t.each es ds handed lent) where
     pub now_handed : AreRunLots handed
     now_handed = handed_lots lots h
 

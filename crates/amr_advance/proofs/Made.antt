@@ -48,12 +48,10 @@ use Rattle.amr_advance.proofs.RunLists.{run_is, same_run}
 use Rattle.amr_advance.proofs.RunZips.{zip_runs}
 use Rattle.amr_advance.proofs.Served.{KeepsPlan, plan_handed, plan_lent, plan_stepped, same_inbox, same_outbox}
 
-module _ {p : Problem} {l : ℕ} {old : Masses} {ps : List Patch} {cells : List Cell} {next : Option Held} {t : Lots} (level : IsInStep p l old ps cells next t) where
-  abbrev s : Around
-  s = around p l ps cells next
+module _ {s : Around} {old : Masses} {t : Lots} (level : IsInStep s old t) where
 
   abbrev e : Fluxes
-  e = flux_at p l (masses_in ps) old
+  e = flux_at s.problem s.level (masses_in s.whole) old
 
   abbrev runs : ℕ
   runs = length t.lots.items
@@ -65,21 +63,21 @@ module _ {p : Problem} {l : ℕ} {old : Masses} {ps : List Patch} {cells : List 
   pub record HaveMade (xs : List (Box Lot)) : Type 0 where
     pub count : length xs ≡ runs
     pub of : (k : ℕ) (x : Box Lot) → k < runs → IsWorkspaceOf s t.each k runs parts (get_or xs k x).value.workspace
-    pub valued : (k : ℕ) (x : Box Lot) → k < runs → HasValuesBy p l old (get_or xs k x).value.workspace.outer
-    pub before : (k : ℕ) (x : Box Lot) → k < runs → length (get_or xs k x).value.before.items ≡ length (run t.each k ps)
-    pub stepped : (k : ℕ) (x : Box Lot) → k < runs → AllZip (IsStepped e) (run t.each k ps) (get_or xs k x).value.patches.items
+    pub valued : (k : ℕ) (x : Box Lot) → k < runs → HasValuesBy s.problem s.level old (get_or xs k x).value.workspace.outer
+    pub before : (k : ℕ) (x : Box Lot) → k < runs → length (get_or xs k x).value.before.items ≡ length (run t.each k s.patches)
+    pub stepped : (k : ℕ) (x : Box Lot) → k < runs → AllZip (IsStepped e) (run t.each k s.patches) (get_or xs k x).value.patches.items
     pub packed : (k : ℕ) (x : Box Lot) → k < runs → All (IsPackedFrom (get_or xs k x).value.patches.items) (get_or xs k x).value.workspace.outbox.items
 
   -- what flows into the register cells that these lots were lent was worked out
   pub record HaveFlows (lent xs : List (Box Lot)) : Type 0 where
     pub same : (k : ℕ) (x : Box Lot) → k < runs → SameEdges (lists_of (get_or lent k x).value.edges.items) (lists_of (get_or xs k x).value.edges.items)
     pub small : (k : ℕ) (x : Box Lot) → k < runs → All (All IsSmallNet) (lists_of (get_or xs k x).value.edges.items)
-    pub nets : (fine : Masses) (k : ℕ) (x : Box Lot) → k < runs → AreEdges (domain p l) (masses_in ps) fine (lists_of (get_or lent k x).value.edges.items)
-        → All (All (λ (c : EdgeCell). c.net ≡ net (edge_flows p l (masses_in ps) old fine) c.cell)) (lists_of (get_or xs k x).value.edges.items)
+    pub nets : (fine : Masses) (k : ℕ) (x : Box Lot) → k < runs → AreEdges (domain s.problem s.level) (masses_in s.whole) fine (lists_of (get_or lent k x).value.edges.items)
+        → All (All (λ (c : EdgeCell). c.net ≡ net (edge_flows s.problem s.level (masses_in s.whole) old fine) c.cell)) (lists_of (get_or xs k x).value.edges.items)
 
   -- ---- lots that made their step
 
-  module _ {lent xs : List (Box Lot)} (ys : List (Box Lot)) (d : AreDelivered level lent xs) (b : StepBasis) (coarse : Option Held) (of_b : IsBasisOf p ps coarse b) (coarser : old_masses coarse ≡ old) (ws : List Work) (raw : ArePieces b l Step xs ws)
+  module _ {lent xs : List (Box Lot)} (ys : List (Box Lot)) (d : AreDelivered level lent xs) (b : StepBasis) (coarse : Option Held) (of_b : IsBasisOf s.problem s.whole coarse b) (coarser : old_masses coarse ≡ old) (ws : List Work) (raw : ArePieces b s.level Step xs ws)
       (count : length ys ≡ length xs) (done : (k : ℕ) (w : Work) (x : Box Lot) → k < length xs → IsDone (get_or ws k w) (get_or ys k x)) where
     a_piece : (k : ℕ) → k < runs → Work
     a_piece k lt = nth ws k (omega (arith, lt, raw.count, d.all.lots.count))
@@ -91,7 +89,7 @@ module _ {p : Problem} {l : ℕ} {old : Masses} {ps : List Patch} {cells : List 
       there : k < length xs
       there = omega (arith, lt, d.all.lots.count)
 
-      one : IsPiece b l Step k (get_or xs k x) w
+      one : IsPiece b s.level Step k (get_or xs k x) w
       one = raw.each k x (a_piece k lt) there
 
       last : IsDone w (get_or ys k x)
@@ -104,15 +102,15 @@ module _ {p : Problem} {l : ℕ} {old : Masses} {ps : List Patch} {cells : List 
       under = subst (λ (duty : Duty). StandsForIn duty w v) one.of_duty last.stands.does
 
       flux_is : flux w ≡ e
-      flux_is = (λ i. fluxes_of (one.of_basis i) (one.of_level i)) ∙ (λ i. flux_at (of_b.problem i) l (masses_in (of_b.patches i)) ((of_b.coarser ∙ coarser) i))
+      flux_is = (λ i. fluxes_of (one.of_basis i) (one.of_level i)) ∙ (λ i. flux_at (of_b.problem i) s.level (masses_in (of_b.patches i)) ((of_b.coarser ∙ coarser) i))
 
-      patches_are : patches_of w ≡ run t.each k ps
+      patches_are : patches_of w ≡ run t.each k s.patches
       patches_are = ap (λ (z : Box Lot). z.value.patches.items) one.of_lot ∙ d.all.patches k x lt
 
-      problem_is : w.basis.value.problem.value ≡ p
+      problem_is : w.basis.value.problem.value ≡ s.problem
       problem_is = (λ i. (one.of_basis i).problem.value) ∙ of_b.problem
 
-      masses_are : masses_of w.basis.value ≡ masses_in ps
+      masses_are : masses_of w.basis.value ≡ masses_in s.whole
       masses_are = (λ i. masses_of (one.of_basis i)) ∙ (λ i. masses_in (of_b.patches i))
 
       coarser_is : coarser_of w.basis.value ≡ old
@@ -122,16 +120,16 @@ module _ {p : Problem} {l : ℕ} {old : Masses} {ps : List Patch} {cells : List 
       at_lot : (F : Lot → Type 0) → F v.lot.value → F (get_or ys k x).value
       at_lot F h = subst (λ (z : Box Lot). F z.value) (sym last.lot) h
 
-      now_stepped : AllZip (IsStepped e) (run t.each k ps) (get_or ys k x).value.patches.items
-      now_stepped = at_lot (λ z. AllZip (IsStepped e) (run t.each k ps) z.patches.items) (subst (λ f. AllZip (IsStepped f) (run t.each k ps) (patches_of v)) flux_is (subst (λ rs. AllZip (IsStepped (flux w)) rs (patches_of v)) patches_are (under.finished last.finished)))
+      now_stepped : AllZip (IsStepped e) (run t.each k s.patches) (get_or ys k x).value.patches.items
+      now_stepped = at_lot (λ z. AllZip (IsStepped e) (run t.each k s.patches) z.patches.items) (subst (λ f. AllZip (IsStepped f) (run t.each k s.patches) (patches_of v)) flux_is (subst (λ rs. AllZip (IsStepped (flux w)) rs (patches_of v)) patches_are (under.finished last.finished)))
 
       now_packed : AllZip (HasPacked (get_or ys k x).value.patches.items) (get_or xs k x).value.workspace.outbox.items (get_or ys k x).value.workspace.outbox.items
       now_packed = at_lot (λ z. AllZip (HasPacked z.patches.items) (get_or xs k x).value.workspace.outbox.items z.workspace.outbox.items)
           (subst (λ (z : Box Lot). AllZip (HasPacked (patches_of v)) z.value.workspace.outbox.items v.lot.value.workspace.outbox.items) one.of_lot (under.sent last.finished))
 
-      now_valued : HasValuesBy p l old (get_or ys k x).value.workspace.outer
-      now_valued = at_lot (λ z. HasValuesBy p l old z.workspace.outer)
-          (subst (λ n. HasValuesBy p l n v.lot.value.workspace.outer) coarser_is (subst (λ n. HasValuesBy p n (coarser_of w.basis.value) v.lot.value.workspace.outer) one.of_level (subst (λ o. HasValuesBy o w.level (coarser_of w.basis.value) v.lot.value.workspace.outer) problem_is under.values)))
+      now_valued : HasValuesBy s.problem s.level old (get_or ys k x).value.workspace.outer
+      now_valued = at_lot (λ z. HasValuesBy s.problem s.level old z.workspace.outer)
+          (subst (λ n. HasValuesBy s.problem s.level n v.lot.value.workspace.outer) coarser_is (subst (λ n. HasValuesBy s.problem n (coarser_of w.basis.value) v.lot.value.workspace.outer) one.of_level (subst (λ o. HasValuesBy o w.level (coarser_of w.basis.value) v.lot.value.workspace.outer) problem_is under.values)))
 
       now_plan : KeepsPlan (get_or xs k x).value.workspace (get_or ys k x).value.workspace
       now_plan = at_lot (λ z. KeepsPlan (get_or xs k x).value.workspace z.workspace) (subst (λ (z : Box Lot). KeepsPlan z.value.workspace v.lot.value.workspace) one.of_lot (plan_stepped w.lot.value.workspace v.lot.value.workspace under.layout under.places))
@@ -168,14 +166,14 @@ module _ {p : Problem} {l : ℕ} {old : Masses} {ps : List Patch} {cells : List 
       nets = λ fine k x lt edges.
           let own : AreEdges (domain (w k x lt).basis.value.problem.value (w k x lt).level) (masses_of (w k x lt).basis.value) fine (lists_of (w k x lt).lot.value.edges.items) =
           subst (λ (o : Problem). AreEdges (domain o (w k x lt).level) (masses_of (w k x lt).basis.value) fine (lists_of (w k x lt).lot.value.edges.items)) (sym (problem_is k x lt))
-          (subst (λ n. AreEdges (domain p n) (masses_of (w k x lt).basis.value) fine (lists_of (w k x lt).lot.value.edges.items)) (sym (one k x lt).of_level)
-          (subst (λ (m : Masses). AreEdges (domain p l) m fine (lists_of (w k x lt).lot.value.edges.items)) (sym (masses_are k x lt))
-          (subst (λ (es : Vec (Vec EdgeCell)). AreEdges (domain p l) (masses_in ps) fine (lists_of es.items)) (sym (edges_are k x lt)) edges))) in
+          (subst (λ n. AreEdges (domain s.problem n) (masses_of (w k x lt).basis.value) fine (lists_of (w k x lt).lot.value.edges.items)) (sym (one k x lt).of_level)
+          (subst (λ (m : Masses). AreEdges (domain s.problem s.level) m fine (lists_of (w k x lt).lot.value.edges.items)) (sym (masses_are k x lt))
+          (subst (λ (es : Vec (Vec EdgeCell)). AreEdges (domain s.problem s.level) (masses_in s.whole) fine (lists_of es.items)) (sym (edges_are k x lt)) edges))) in
           let found = (nets k x lt).nets fine own in
-          at_lot k x lt (λ z. All (All (λ (c : EdgeCell). c.net ≡ net (edge_flows p l (masses_in ps) old fine) c.cell)) (lists_of z.edges.items))
-          (subst (λ (m : Masses). All (All (λ (c : EdgeCell). c.net ≡ net (edge_flows p l (masses_in ps) m fine) c.cell)) (lists_of (v k x lt).lot.value.edges.items)) (coarser_is k x lt)
-          (subst (λ (m : Masses). All (All (λ (c : EdgeCell). c.net ≡ net (edge_flows p l m (coarser_of (w k x lt).basis.value) fine) c.cell)) (lists_of (v k x lt).lot.value.edges.items)) (masses_are k x lt)
-          (subst (λ n. All (All (λ (c : EdgeCell). c.net ≡ net (edge_flows p n (masses_of (w k x lt).basis.value) (coarser_of (w k x lt).basis.value) fine) c.cell)) (lists_of (v k x lt).lot.value.edges.items)) (one k x lt).of_level
+          at_lot k x lt (λ z. All (All (λ (c : EdgeCell). c.net ≡ net (edge_flows s.problem s.level (masses_in s.whole) old fine) c.cell)) (lists_of z.edges.items))
+          (subst (λ (m : Masses). All (All (λ (c : EdgeCell). c.net ≡ net (edge_flows s.problem s.level (masses_in s.whole) m fine) c.cell)) (lists_of (v k x lt).lot.value.edges.items)) (coarser_is k x lt)
+          (subst (λ (m : Masses). All (All (λ (c : EdgeCell). c.net ≡ net (edge_flows s.problem s.level m (coarser_of (w k x lt).basis.value) fine) c.cell)) (lists_of (v k x lt).lot.value.edges.items)) (masses_are k x lt)
+          (subst (λ n. All (All (λ (c : EdgeCell). c.net ≡ net (edge_flows s.problem n (masses_of (w k x lt).basis.value) (coarser_of (w k x lt).basis.value) fine) c.cell)) (lists_of (v k x lt).lot.value.edges.items)) (one k x lt).of_level
           (subst (λ (o : Problem). All (All (λ (c : EdgeCell). c.net ≡ net (edge_flows o (w k x lt).level (masses_of (w k x lt).basis.value) (coarser_of (w k x lt).basis.value) fine) c.cell)) (lists_of (v k x lt).lot.value.edges.items)) (problem_is k x lt) found))));
     }
 
@@ -185,9 +183,9 @@ module _ {p : Problem} {l : ℕ} {old : Masses} {ps : List Patch} {cells : List 
   lent_made {xs = xs} {ys = ys} h g = record {
     count = sym (length_all_zip KeepAllButEdges xs ys g.others) ∙ h.count;
     of = λ k x lt. still_workspace level (h.of k x lt) (get_or ys k x).value.workspace (plan k x lt) (same_outbox (h.of k x lt).serves (get_or ys k x).value.workspace (plan k x lt) (ap (λ (z : Lot). z.workspace.outbox) (one k x lt))) (same_inbox (h.of k x lt).serves (get_or ys k x).value.workspace (plan k x lt) (ap (λ (z : Lot). z.workspace.inbox) (one k x lt)));
-    valued = λ k x lt. subst (λ (z : Lot). HasValuesBy p l old z.workspace.outer) (sym (one k x lt)) (h.valued k x lt);
+    valued = λ k x lt. subst (λ (z : Lot). HasValuesBy s.problem s.level old z.workspace.outer) (sym (one k x lt)) (h.valued k x lt);
     before = λ k x lt. ap (λ (z : Lot). length z.before.items) (one k x lt) ∙ h.before k x lt;
-    stepped = λ k x lt. subst (λ (z : Lot). AllZip (IsStepped e) (run t.each k ps) z.patches.items) (sym (one k x lt)) (h.stepped k x lt);
+    stepped = λ k x lt. subst (λ (z : Lot). AllZip (IsStepped e) (run t.each k s.patches) z.patches.items) (sym (one k x lt)) (h.stepped k x lt);
     packed = λ k x lt. subst (λ (z : Lot). All (IsPackedFrom z.patches.items) z.workspace.outbox.items) (sym (one k x lt)) (h.packed k x lt);
   }
     where
@@ -200,25 +198,25 @@ module _ {p : Problem} {l : ℕ} {old : Masses} {ps : List Patch} {cells : List 
   -- ---- the patches taken back
 
   module _ {xs : List (Box Lot)} (h : HaveMade xs) where
-    module _ (zs : List Patch) (as_many : length zs ≡ length ps) (back : (k : ℕ) (x : Box Lot) → k < length xs → run t.each k zs ≡ (get_or xs k x).value.patches.items) where
-      run_stepped : (k : ℕ) (x : Box Lot) → k < runs → AllZip (IsStepped e) (run t.each k ps) (run t.each k zs)
-      run_stepped k x lt = subst (AllZip (IsStepped e) (run t.each k ps)) (sym (back k x (omega (arith, lt, h.count)))) (h.stepped k x lt)
+    module _ (zs : List Patch) (as_many : length zs ≡ length s.patches) (back : (k : ℕ) (x : Box Lot) → k < length xs → run t.each k zs ≡ (get_or xs k x).value.patches.items) where
+      run_stepped : (k : ℕ) (x : Box Lot) → k < runs → AllZip (IsStepped e) (run t.each k s.patches) (run t.each k zs)
+      run_stepped k x lt = subst (AllZip (IsStepped e) (run t.each k s.patches)) (sym (back k x (omega (arith, lt, h.count)))) (h.stepped k x lt)
 
       a_lot : (k : ℕ) → k < runs → Box Lot
       a_lot k lt = nth t.lots.items k lt
 
       -- they have made the step
-      pub all_stepped : AllZip (IsStepped (flux_at p l (masses_in ps) old)) ps zs
-      all_stepped = zip_runs t.each runs level.lots.some ps level.lots.enough (IsStepped e) zs (sym as_many) (λ k lt. run_stepped k (a_lot k lt) lt)
+      pub all_stepped : AllZip (IsStepped (flux_at s.problem s.level (masses_in s.whole) old)) s.patches zs
+      all_stepped = zip_runs t.each runs level.lots.some s.patches level.lots.enough (IsStepped e) zs (sym as_many) (λ k lt. run_stepped k (a_lot k lt) lt)
 
-      same_boxes : map box zs ≡ map box ps
-      same_boxes = boxes_of_zip (IsStepped e) (λ q r h. h.of_box) ps zs all_stepped
+      same_boxes : map box zs ≡ map box s.patches
+      same_boxes = boxes_of_zip (IsStepped e) (λ q r h. h.of_box) s.patches zs all_stepped
 
-      run_boxes : (k : ℕ) → map box (run t.each k ps) ≡ map box (run t.each k zs)
-      run_boxes k = map_run box t.each k ps ∙ ap (λ (bs : List Extent). run t.each k bs) (sym same_boxes) ∙ sym (map_run box t.each k zs)
+      run_boxes : (k : ℕ) → map box (run t.each k s.patches) ≡ map box (run t.each k zs)
+      run_boxes k = map_run box t.each k s.patches ∙ ap (λ (bs : List Extent). run t.each k bs) (sym same_boxes) ∙ sym (map_run box t.each k zs)
 
       -- the lots with the patches that they had before
-      module _ {ds : List Patch} {last : List (Box Lot)} (same : length ds ≡ length ps) (g : AreHanded t.each ds xs last) where
+      module _ {ds : List Patch} {last : List (Box Lot)} (same : length ds ≡ length s.patches) (g : AreHanded t.each ds xs last) where
         last_count : length last ≡ runs
         last_count = sym (length_all_zip KeepOthers xs last g.others) ∙ h.count
 
@@ -232,8 +230,8 @@ module _ {p : Problem} {l : ℕ} {old : Masses} {ps : List Patch} {cells : List 
         last_of k x lt = still_workspace level (h.of k x lt) (get_or last k x).value.workspace (plan_last k x lt) (same_outbox (h.of k x lt).serves (get_or last k x).value.workspace (plan_last k x lt) (ap (λ (z : Lot). z.workspace.outbox) (one_last k x lt)))
             (same_inbox (h.of k x lt).serves (get_or last k x).value.workspace (plan_last k x lt) (ap (λ (z : Lot). z.workspace.inbox) (one_last k x lt)))
 
-        pub last_valued : All (λ (x : Box Lot). HasValuesBy p l old x.value.workspace.outer) last
-        last_valued = λ k x lt. let below : k < runs = omega (arith, lt, last_count) in subst (λ (z : Lot). HasValuesBy p l old z.workspace.outer) (sym (one_last k x below)) (h.valued k x below)
+        pub last_valued : All (λ (x : Box Lot). HasValuesBy s.problem s.level old x.value.workspace.outer) last
+        last_valued = λ k x lt. let below : k < runs = omega (arith, lt, last_count) in subst (λ (z : Lot). HasValuesBy s.problem s.level old z.workspace.outer) (sym (one_last k x below)) (h.valued k x below)
 
         -- what they packed are the new masses
         pub carried : CarryMasses (masses_in zs) last
@@ -245,8 +243,8 @@ module _ {p : Problem} {l : ℕ} {old : Masses} {ps : List Patch} {cells : List 
             subst (λ (z : Lot). All (IsPackedFrom (run t.each k zs)) z.workspace.outbox.items) (sym (one_last k x there))
             (subst (λ rs. All (IsPackedFrom rs) (get_or xs k x).value.workspace.outbox.items) (sym (back k x (omega (arith, there, h.count)))) (h.packed k x there)) in
             let takes : All (λ (m : Message). All (IsTaken (run t.each k zs)) m.copies.items × HasPlaces m) b.workspace.outbox.items =
-            box_copies (last_of k x there).serves.outbox (IsTaken (run t.each k zs)) b.workspace.copies (λ j to n c under. taken_of_boxes (run t.each k ps) (run t.each k zs) (run_boxes k) _ (taken level k j b.workspace.copies there to n c under)) in
-            packed_carries t.each k zs (run t.each k zs) (apart_alike ps zs same_boxes level.apart) (run_is t.each k zs) y.copies.items y.masses.items (takes i m below).0 (packed i m below)
+            box_copies (last_of k x there).serves.outbox (IsTaken (run t.each k zs)) b.workspace.copies (λ j to n c under. taken_of_boxes (run t.each k s.patches) (run t.each k zs) (run_boxes k) _ (taken level k j b.workspace.copies there to n c under)) in
+            packed_carries t.each k zs (run t.each k zs) (apart_alike s.patches zs same_boxes level.apart) (run_is t.each k zs) y.copies.items y.masses.items (takes i m below).0 (packed i m below)
 
         -- and they are the lots of the level again
         pub lot_again : AreSeveralLots s parts t → HaveNoEdges level last → (k : ℕ) (x : Box Lot) → k < runs → IsLotOf s t.each k runs parts (get_or last k x).value
@@ -255,7 +253,7 @@ module _ {p : Problem} {l : ℕ} {old : Masses} {ps : List Patch} {cells : List 
           words = (last_of k x lt).words;
           layouts = (last_of k x lt).layouts;
           others = record {
-            count = ap length (g.patches k x (omega (arith, lt, h.count))) ∙ same_run t.each k ds ps same;
+            count = ap length (g.patches k x (omega (arith, lt, h.count))) ∙ same_run t.each k ds s.patches same;
             before = ap (λ (z : Lot). length z.before.items) (one_last k x lt) ∙ h.before k x lt;
             edges = none.count k x lt;
             no_edges = none.empty k x lt;

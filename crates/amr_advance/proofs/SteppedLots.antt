@@ -70,14 +70,12 @@ pub record AreInPlaceOf (t u : Lots) (last : List (Box Lot)) : Type 0 where
   pub totals : length u.totals.items ≡ length t.totals.items
   pub lots : u.lots.items ≡ last
 
-module _ {p : Problem} {l : ℕ} {old : Masses} {ps : List Patch} {cells : List Cell} {next : Option Held} {t : Lots} (level : IsInStep p l old ps cells next t) (one : is_one t ≡ false) (ready : All (λ (x : Box Lot). HasValuesOrLevel p l old x.value.workspace.outer) t.lots.items) where
-  abbrev s : Around
-  s = around p l ps cells next
+module _ {s : Around} {old : Masses} {t : Lots} (level : IsInStep s old t) (one : is_one t ≡ false) (ready : All (λ (x : Box Lot). HasValuesOrLevel s.problem s.level old x.value.workspace.outer) t.lots.items) where
 
   abbrev runs : ℕ
   runs = length t.lots.items
 
-  pub several : AreSeveralLots (around p l ps cells next) level.lots.parts t
+  pub several : AreSeveralLots s level.lots.parts t
   several = subst (λ b. AreMade b s level.lots.parts t) one level.lots.made
 
   first : AreRunLots level t.lots.items
@@ -96,7 +94,7 @@ module _ {p : Problem} {l : ℕ} {old : Masses} {ps : List Patch} {cells : List 
       same : length xs.items ≡ runs
       same = ap length is ∙ count
 
-  module _ {qs : List Patch} {es ds : List (Vec EdgeCell)} {xs : List (Box Lot)} (h : HaveBeenHanded t ps qs es ds xs) (fit : AreEdgesFor (map box ps) (lists_of es)) (current : t.packed ≡ true → CarryMasses (masses_in ps) t.lots.items) where
+  module _ {qs : List Patch} {es ds : List (Vec EdgeCell)} {xs : List (Box Lot)} (h : HaveBeenHanded t s.patches qs es ds xs) (fit : AreEdgesFor (map box s.patches) (lists_of es)) (current : t.packed ≡ true → CarryMasses (masses_in s.patches) t.lots.items) where
     g : AreLent t.each es ds h.handed h.lent
     g = h.lists
 
@@ -110,19 +108,19 @@ module _ {p : Problem} {l : ℕ} {old : Masses} {ps : List Patch} {cells : List 
     lists = lent_lists level handed_are g none fit
 
     d : AreDelivered level h.lent xs
-    d = delivered_to level (sent_from level (lent_runs level first h.patches g) (still_carried level first h.patches g (masses_in ps)) current h.sent h.packed h.packed_now) h.delivered
+    d = delivered_to level (sent_from level (lent_runs level first h.patches g) (still_carried level first h.patches g (masses_in s.patches)) current h.sent h.packed h.packed_now) h.delivered
 
     pub xs_count : length xs ≡ length t.lots.items
     xs_count = d.all.lots.count
 
     -- their pieces may be run
-    pub may_run : (b : StepBasis) (coarse : Option Held) → IsBasisOf p ps coarse b → old_masses coarse ≡ old → (ws : List Work) → ArePieces b l Step xs ws → MayBeRun p t.shape ws
+    pub may_run : (b : StepBasis) (coarse : Option Held) → IsBasisOf s.problem s.whole coarse b → old_masses coarse ≡ old → (ws : List Work) → ArePieces b s.level Step xs ws → MayBeRun s.problem t.shape ws
     may_run b coarse of_b coarser ws raw =
-        may_be_run level several d lists b coarse of_b coarser ws raw (patch_plan s t.each (plain_size p l (masses_in ps) old)) (fine_plan p l old ps cells next t.each fine_is)
-        (are_planned p l old ps cells next t.each level.shallow level.apart (all_lie p l ps level.inside) fine_is)
+        may_be_run level several d lists b coarse of_b coarser ws raw (patch_plan s t.each (plain_size s.problem s.level (masses_in s.whole) old)) (fine_plan s old t.each fine_is)
+        (are_planned s old t.each level.shallow level.once (all_lie s.problem s.level s.patches level.inside) fine_is)
       where
-        fine_is : IsPlan (patch_plan s t.each (plain_size p l (masses_in ps) old))
-        fine_is = several.plan (plain_size p l (masses_in ps) old) level.fits.fluxes
+        fine_is : IsPlan (patch_plan s t.each (plain_size s.problem s.level (masses_in s.whole) old))
+        fine_is = several.plan (plain_size s.problem s.level (masses_in s.whole) old) level.fits.fluxes
 
     -- ---- whatever comes of it, they are as many, with as many patches and lists
 
@@ -151,15 +149,15 @@ module _ {p : Problem} {l : ℕ} {old : Masses} {ps : List Patch} {cells : List 
         pub patches_back : (k : ℕ) (x : Box Lot) → k < length zs → length (get_or zs k x).value.patches.items ≡ length (run t.each k qs)
         patches_back k x lt =
             let below : k < runs = omega (arith, lt, zs_count) in
-            ap (λ (z : Lot). length z.patches.items) (one_back k x below) ∙ (as_many_here k x below).patches ∙ ap length (d.all.patches k x below) ∙ same_run t.each k ps qs (sym h.count)
+            ap (λ (z : Lot). length z.patches.items) (one_back k x below) ∙ (as_many_here k x below).patches ∙ ap length (d.all.patches k x below) ∙ same_run t.each k s.patches qs (sym h.count)
 
         module _ (rs : List Patch) {last : List (Box Lot)} (c : AreHanded t.each qs zs last) (c_back : (k : ℕ) (x : Box Lot) → k < length zs → run t.each k rs ≡ (get_or zs k x).value.patches.items) (c_count : length rs ≡ length qs) where
           -- ---- refused: they are as they were handed
 
           module _ (same : ys ≡ xs) where
-            pub patches_same : rs ≡ ps
+            pub patches_same : rs ≡ s.patches
             patches_same =
-                same_runs t.each runs rs ps (c_count ∙ h.count) (let n = level.lots.enough in (let m = h.count in omega (arith, n, c_count, m)))
+                same_runs t.each runs rs s.patches (c_count ∙ h.count) (let n = level.lots.enough in (let m = h.count in omega (arith, n, c_count, m)))
                 (λ k lt. let x : Box Lot = a_lot k lt in
                 c_back k x (omega (arith, lt, zs_count)) ∙ ap (λ (z : Lot). z.patches.items) (one_back k x lt) ∙ (λ i. (get_or (same i) k x).value.patches.items) ∙ d.all.patches k x lt)
 
@@ -172,7 +170,7 @@ module _ {p : Problem} {l : ℕ} {old : Masses} {ps : List Patch} {cells : List 
                     let some : 0 < length es = omega (arith, e) in
                     let n = g.count in
                     let o = b.count in
-                    same_runs t.each runs bs es (o ∙ n) (let k = as_many t.each ps es fit some in let q = level.lots.enough in omega (arith, k, q, n, o))
+                    same_runs t.each runs bs es (o ∙ n) (let k = as_many t.each s.patches es fit some in let q = level.lots.enough in omega (arith, k, q, n, o))
                     (λ k lt. let x : Box Lot = a_lot k lt in
                     b.back (omega (arith, some, n)) k x (omega (arith, lt, ys_count)) ∙ (λ i. (get_or (same i) k x).value.edges.items) ∙ (λ i. (d.all.edges k x lt i).items) ∙ g.handed some k x (omega (arith, lt, handed_are.count)))
 
@@ -181,7 +179,7 @@ module _ {p : Problem} {l : ℕ} {old : Masses} {ps : List Patch} {cells : List 
 
           -- ---- done
 
-          module _ (basis : StepBasis) (coarse : Option Held) (of_b : IsBasisOf p ps coarse basis) (coarser : old_masses coarse ≡ old) (u' : Lots) (is_ys : u'.lots.items ≡ ys) (done : HaveMadeStep basis l xs t u') where
+          module _ (basis : StepBasis) (coarse : Option Held) (of_b : IsBasisOf s.problem s.whole coarse basis) (coarser : old_masses coarse ≡ old) (u' : Lots) (is_ys : u'.lots.items ≡ ys) (done : HaveMadeStep basis s.level xs t u') where
             made_all : HaveMade level ys
             made_all = made level ys d basis coarse of_b coarser done.raw done.are (sym (length_all_zip HasAsMany xs ys many)) (λ k w x lt. subst (λ (zs' : List (Box Lot)). IsDone (get_or done.raw k w) (get_or zs' k x)) is_ys (done.lots k w x (let n = xs_count in omega (arith, lt, n))))
 
@@ -191,13 +189,13 @@ module _ {p : Problem} {l : ℕ} {old : Masses} {ps : List Patch} {cells : List 
             now : HaveMade level zs
             now = lent_made level made_all b
 
-            as_many_patches : length rs ≡ length ps
+            as_many_patches : length rs ≡ length s.patches
             as_many_patches = c_count ∙ h.count
 
-            now_stepped : AllZip (IsStepped (flux_at p l (masses_in ps) old)) ps rs
+            now_stepped : AllZip (IsStepped (flux_at s.problem s.level (masses_in s.whole) old)) s.patches rs
             now_stepped = all_stepped level now rs as_many_patches c_back
 
-            now_found : AreFound (around p l ps cells next) old (lists_of es) (lists_of bs)
+            now_found : AreFound s old (lists_of es) (lists_of bs)
             now_found = record {
               same = all_same level handed_are none fit g ys_count flows b;
               small = all_small level handed_are none fit g ys_count flows b;
@@ -221,24 +219,24 @@ module _ {p : Problem} {l : ℕ} {old : Masses} {ps : List Patch} {cells : List 
               totals_are : AreTotalsOf s old u.totals.items
               totals_are = subst (AreTotalsOf s old) (sym totals) (record { are = are; small = λ word lt. let n = are word lt in let m = totals_small level word in omega (arith, n, m) })
                 where
-                  are : (word : ℕ) → word < length u'.totals.items → slice_index u'.totals.items word ≡ level_total s (plain_size p l (masses_in ps) old) word
+                  are : (word : ℕ) → word < length u'.totals.items → slice_index u'.totals.items word ≡ level_total s (plain_size s.problem s.level (masses_in s.whole) old) word
                   are word lt =
                       let there : word < t.shape.words = (let a = place.totals in let b' = several.totals in omega (arith, lt, ap length totals, a, b')) in
                       done.totals word there
-                      ∙ plan_total level several d basis coarse of_b coarser done.raw done.are (patch_plan s t.each (plain_size p l (masses_in ps) old)) (fine_plan p l old ps cells next t.each (several.plan (plain_size p l (masses_in ps) old) level.fits.fluxes)) word
+                      ∙ plan_total level several d basis coarse of_b coarser done.raw done.are (patch_plan s t.each (plain_size s.problem s.level (masses_in s.whole) old)) (fine_plan s old t.each (several.plan (plain_size s.problem s.level (masses_in s.whole) old) level.fits.fluxes)) word
 
               kept : AreLots s (record t { packed = u.packed; valued = u.valued; lots = u.lots; totals = u.totals })
               kept = lots_last last u.lots u.totals u.packed u.valued place.lots place.totals
                   (λ k x lt. lot_again level now rs as_many_patches c_back h.count c several none_again k x lt) (sym (length_all_zip KeepOthers zs last c.others) ∙ zs_count)
 
-              now_lots : HaveStepped (around p l ps cells next) old rs t u
+              now_lots : HaveStepped s old rs t u
               now_lots = record {
                 lots = subst (AreLots s) (λ i. record { level = sym place.level i; wanted = sym place.wanted i; each = sym place.each i; shape = sym place.shape i; packed = u.packed; valued = u.valued; lots = u.lots; totals = u.totals }) kept;
                 wanted = place.wanted;
                 carry = subst (CarryMasses (masses_in rs)) (sym place.lots) (carried level now rs as_many_patches c_back h.count c);
-                values = subst (All (λ (x : Box Lot). HasValuesBy p l old x.value.workspace.outer)) (sym place.lots) (last_valued level now rs as_many_patches c_back h.count c);
+                values = subst (All (λ (x : Box Lot). HasValuesBy s.problem s.level old x.value.workspace.outer)) (sym place.lots) (last_valued level now rs as_many_patches c_back h.count c);
                 totals = subst (λ b'. AreTotalsOf s old (totals_by b' u)) (sym ((λ i. nat_lt (place.wanted i) 2) ∙ one)) totals_are;
               }
 
-              pub now_made : LotsMadeStep (around p l ps cells next) old rs (lists_of es) (lists_of bs) t u
+              pub now_made : LotsMadeStep s old rs (lists_of es) (lists_of bs) t u
               now_made = record { stepped = now_stepped; lots = now_lots; edges = now_found }

@@ -23,10 +23,12 @@ pub record IsLaidOut (s : Around) (k : KeptLayout) : Type 0 where
   pub few : 2 + 2 * length s.cells < 2 ^ 32
   pub lots : AreLots s k.lots
 
--- it was made for a level of this problem
+-- it was made for all of a level of this problem
 pub record IsKeptLayout (p : Problem) (k : KeptLayout) : Type 0 where
   pub made_for : Around
   pub of_problem : made_for.problem ≡ p
+  pub unfilled : made_for.filled ≡ false
+  pub all : made_for.whole ≡ made_for.patches
   pub laid_out : IsLaidOut made_for k
 
 -- it was made for this level, and what it keeps of masses is of these: `own` those of the level, `old` those of the next coarser one

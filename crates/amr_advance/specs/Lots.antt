@@ -5,6 +5,7 @@ use Rattle.std.specs.Global.{Box, Vec}
 use Rattle.std.specs.List.{All, AllZip}
 use Rattle.amr_box.specs.declared.Face.{Face}
 use Rattle.amr_box.specs.Cells.{Extent, width}
+use Rattle.amr_def.specs.Domain.{Domain}
 use Rattle.amr_def.specs.State.{Masses}
 use Rattle.amr_def.specs.declared.problem.Problem.{Problem}
 use Rattle.amr_flux.specs.Rooms.{widest}
@@ -39,6 +40,13 @@ use Rattle.amr_patch.specs.declared.patches.Patch.{Patch}
 use Rattle.amr_patch.specs.Patches.{box}
 use Rattle.amr_phase.specs.Plans.{IsPlan, total}
 use Rattle.amr_advance.specs.declared.lots.Lots.{Lots}
+
+-- ---- where ghost cells get their values from
+
+-- from a plan of the frames of these patches; from nowhere, where they are filled beforehand
+abbrev pub PlansUnlessFilled : Bool → Domain → List Patch → FramePlan → Type 0
+PlansUnlessFilled false d ps plan = PlansFrames d ps plan
+PlansUnlessFilled true d ps plan = plan.spans.items ≡ []
 
 -- ---- the workspace of a run
 
@@ -135,7 +143,7 @@ pub record AreLots (s : Around) (t : Lots) : Type 0 where
   pub many : length t.lots.items ≤ 2 ^ 26
   pub edges : total (λ q. edge_count (box q)) s.patches ≤ 2 ^ 30
   pub plan : FramePlan
-  pub planned : PlansFrames (domain_around s) s.patches plan
+  pub planned : PlansUnlessFilled s.filled (domain_around s) s.patches plan
   pub parts : FrameParts
   pub parted : IsParted plan t.each (length t.lots.items) parts
   pub made : AreMade (is_one t) s parts t

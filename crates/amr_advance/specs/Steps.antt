@@ -1,5 +1,5 @@
 -- A step of a level: what it is made from, and what it leaves.
-use Rattle.std.specs.Prelude.{◌≡◌, ℕ, ◌<◌, ◌≤◌, ◌^◌, ◌+◌, ◌*◌, true, pos, List, length, map, slice_index, IfSome}
+use Rattle.std.specs.Prelude.{◌≡◌, ℕ, ◌<◌, ◌≤◌, ◌^◌, ◌+◌, ◌*◌, Bool, true, false, pos, List, length, map, slice_index, IfSome}
 use Rattle.std.specs.declared.option.Option.{Option}
 use Rattle.std.specs.declared.option.Option.TheVariants.{None}
 use Rattle.std.specs.List.{All, AllZip}
@@ -15,11 +15,11 @@ use Rattle.amr_patch.specs.declared.patches.Patch.{Patch}
 use Rattle.amr_patch.specs.Levels.{level_of, patches_of}
 use Rattle.amr_patch.specs.Orders.{IsOrderOf}
 use Rattle.amr_patch.specs.Patches.{ArePatchesApart, box, masses_in}
-use Rattle.amr_ghost.specs.Frames.{AreInDomain, old_masses}
+use Rattle.amr_ghost.specs.Frames.{AreInDomain, HasGhostValues, old_masses}
 use Rattle.amr_flows.specs.Laws.{plain_size}
 use Rattle.amr_flows.specs.Words.{level_total}
 use Rattle.amr_layout.specs.Adds.{HasRegisterCells}
-use Rattle.amr_layout.specs.Surroundings.{Around, around, domain_around, finer_masses}
+use Rattle.amr_layout.specs.Surroundings.{AreAmong, Around, around, domain_around, finer_masses}
 use Rattle.amr_lots.specs.FrameValues.{HasValuesBy, HasValuesOrLevel}
 use Rattle.amr_lots.specs.Lots.{IsStepped, LevelStepFits}
 use Rattle.amr_register.specs.declared.edges.EdgeCell.{EdgeCell}
@@ -39,9 +39,25 @@ use Rattle.amr_advance.specs.Totals.{HasTotals}
 
 -- ---- what it is made from
 
--- a level with these patches, and what lies around it
+-- all patches of the level
+abbrev pub whole_of : StepInput → List Patch
+whole_of g = g.basis.now.patches.value.items
+
+-- these patches of the level, and what lies around it
 abbrev pub around_of : StepInput → List Patch → Around
-around_of g qs = around g.problem.now g.level qs g.cells.now (option_copied g.finer)
+around_of g qs = record {
+  problem = g.problem.now;
+  level = g.level;
+  patches = qs;
+  whole = whole_of g;
+  filled = g.filled;
+  cells = g.cells.now;
+  finer = finer_masses (option_copied g.finer);
+}
+
+-- a level with these patches, all of which are worked on
+abbrev pub all_around : StepInput → List Patch → Around
+all_around g qs = around g.problem.now g.level qs g.cells.now (option_copied g.finer)
 
 -- the masses of the next coarser level before its own step
 abbrev pub coarser_masses : StepInput → Masses
@@ -49,26 +65,35 @@ coarser_masses g = old_masses (option_copied g.old)
 
 -- what flows through each face of the level, by its own masses and those of the next coarser level
 abbrev pub own_fluxes : Around → Masses → Fluxes
-own_fluxes s old = flux_at s.problem s.level (masses_in s.patches) old
+own_fluxes s old = flux_at s.problem s.level (masses_in s.whole) old
 
--- a level that may make its step
+-- the frames of the patches that are worked on are filled beforehand, or else all of the level is worked on
+abbrev pub AreFramed : Bool → Around → Masses → Type 0
+AreFramed false s old = s.whole ≡ s.patches
+AreFramed true s old = All (HasGhostValues s.problem s.level (masses_in s.whole) old) s.patches
+
+-- patches of a level that may make their step
 pub record MayStepLevel (s : Around) (old : Masses) : Type 0 where
   pub level : s.level ≤ 4
-  pub apart : ArePatchesApart s.patches
-  pub inside : AreInDomain (domain_around s) s.patches
-  pub fits : LevelStepFits s.problem s.level (masses_in s.patches) old
+  pub apart : ArePatchesApart s.whole
+  pub inside : AreInDomain (domain_around s) s.whole
+  pub fits : LevelStepFits s.problem s.level (masses_in s.whole) old
+  pub worked_on : AreAmong s.whole s.patches
+  pub once : ArePatchesApart s.patches
+  pub framed : AreFramed s.filled s old
 
 -- patches that may make their step, made from this
 pub record MayMakeStep (g : StepInput) (qs : List Patch) : Type 0 where
   pub level : MayStepLevel (around_of g qs) (coarser_masses g)
-  pub basis : IsBasisOf g.problem.now qs (option_copied g.old) g.basis.now
+  pub basis : IsBasisOf g.problem.now (whole_of g) (option_copied g.old) g.basis.now
   pub shared : IsSharedOf g.old g.shared
 
--- in this order, over this register, where there is one, and with these register cells of the next coarser level
+-- all patches of a level, in this order, over this register, where there is one, and with these register cells of the next coarser level
 pub record MayStepPatches (g : StepInput) (order : Order) (qs : List Patch) (r : Option Register) : Type 0 where
   pub step : MayMakeStep g qs
+  pub unfilled : g.filled ≡ false
   pub order_of : IsOrderOf order qs
-  pub cells : HasRegisterCells (around_of g qs)
+  pub cells : HasRegisterCells (all_around g qs)
   pub register : HasEdges g.problem.now g.level (masses_in qs) (option_copied g.finer) r
   pub edges : IfSome r (HasEdgesOf (map box qs))
 
@@ -80,14 +105,14 @@ AreStepped s old rs = AllZip (IsStepped (own_fluxes s old)) s.patches rs
 
 -- totals of words, small ones: what the level's own fluxes add to each
 pub record AreTotalsOf (s : Around) (old : Masses) (ws : List ℕ) : Type 0 where
-  pub are : (word : ℕ) → word < length ws → slice_index ws word ≡ level_total s (plain_size s.problem s.level (masses_in s.patches) old) word
+  pub are : (word : ℕ) → word < length ws → slice_index ws word ≡ level_total s (plain_size s.problem s.level (masses_in s.whole) old) word
   pub small : (word : ℕ) → word < length ws → slice_index ws word < 2 ^ 63
 
 -- lists of register cells over a finer level tell what the level's own fluxes carry into each cell
 pub record AreFound (s : Around) (old : Masses) (xs ys : List (List EdgeCell)) : Type 0 where
   pub same : SameEdges xs ys
   pub small : All (All IsSmallNet) ys
-  pub nets : AreNetsOf s.problem s.level (masses_in s.patches) old xs ys
+  pub nets : AreNetsOf s.problem s.level (masses_in s.whole) old xs ys
 
 -- lots that may make the step of their level: what they have packed for others is of its masses, and each has the values of its outer ghost
 -- cells, or a level by which it can find them
@@ -126,13 +151,13 @@ pub record HasMadeStep (s : Around) (old : Masses) (rs : List Patch) (xs ys : Li
 -- what a step leaves of a level, where its layout is kept: patches with the new masses, totals of words that give them to what the step adds
 -- to, and entries of the register over the next finer level that lost the level's own flows through its edges
 pub record LeavesStep (s : Around) (old : Masses) (rs : List Patch) (before after : Option Register) (kept : Option KeptLayout) : Type 0 where
-  pub masses : masses_in rs ≡ updated (masses_in s.patches) (own_fluxes s old)
+  pub masses : masses_in rs ≡ updated (masses_in s.whole) (own_fluxes s old)
   pub count : length (totals_in kept) ≡ 2 + 2 * length s.cells
   pub few : length (totals_in kept) < 2 ^ 32
   pub small : (word : ℕ) → word < length (totals_in kept) → slice_index (totals_in kept) word < 2 ^ 63
-  pub totals : HasTotals s.problem s.level (masses_in s.patches) old s.finer s.cells (totals_in kept)
+  pub totals : HasTotals s.problem s.level (masses_in s.whole) old s.finer s.cells (totals_in kept)
   pub there : IfSome kept HasFirstTotals
-  pub register : BothChange (taken s.problem s.level (masses_in s.patches) old s.finer) before after
+  pub register : BothChange (taken s.problem s.level (masses_in s.whole) old s.finer) before after
 
 -- ---- a step of a level
 

@@ -8,6 +8,7 @@ use Rattle.amr_def.specs.State.{Masses}
 use Rattle.amr_patch.specs.declared.patches.Patch.{Patch}
 use Rattle.amr_flows.specs.Laws.{ArePatchesOf, plain_size}
 use Rattle.amr_flows.specs.Words.{level_total}
+use Rattle.amr_layout.specs.Surroundings.{around_masses}
 use Rattle.amr_register.specs.declared.register.Register.{Register}
 use Rattle.amr_register.specs.Fields.{IsRegisterOf, SameCells, cells_in, entry_in}
 
@@ -16,7 +17,7 @@ pub record HasTotals (p : Problem) (l : ℕ) (m old fine : Masses) (cells : List
   pub patches : List Patch
   pub of_level : ArePatchesOf p l m patches
   pub words : (word : ℕ) → word < length ws
-      → slice_index ws word ≡ level_total (record { problem = p; level = l; patches = patches; whole = patches; cells = cells; finer = fine }) (plain_size p l m old) word
+      → slice_index ws word ≡ level_total (around_masses p l patches cells fine) (plain_size p l m old) word
 
 -- ---- to a register
 

@@ -15,7 +15,7 @@ ghost use Rattle.amr_layout.specs.Surroundings.{finer_masses};
 ghost use Rattle.amr_ghost.specs.Frames.{AreInDomain};
 ghost use Rattle.amr_lots.specs.Runs.{lot_count};
 ghost use Rattle.amr_advance.specs.KeptLayouts.{Forgets, IsKeptLayout, IsKeptOf, IsLaidOut, ServesLevel};
-ghost use Rattle.amr_advance.specs.Steps.{around_of, coarser_masses};
+ghost use Rattle.amr_advance.specs.Steps.{all_around, coarser_masses};
 
 use crate::level::StepInput;
 use crate::lots::{Lots, make_lots};
@@ -131,7 +131,7 @@ fn finer_boxes(alloc: Global, finer: Option<&Level>) -> Result<Vec<Bx>, NoMemory
 
 /// Whether a layout that is kept is that of these patches.
 fn serves(kept: &KeptLayout, given: StepInput<'_>, patches: &[Patch], wanted: usize) -> bool
-    ensures laid_out { IsTrue result → IsKeptLayout given.entry.problem.now kept.now → IsLaidOut (around_of given.entry patches.now) kept.now }
+    ensures laid_out { IsTrue result → IsKeptLayout given.entry.problem.now kept.now → IsLaidOut (all_around given.entry patches.now) kept.now }
     ensures wanted { IsTrue result → kept.now.lots.wanted ≡ wanted }
 {
     if kept.lots.wanted != wanted {
@@ -162,8 +162,8 @@ fn lay_out_anew<R: Threads + Sync>(
     requires order { IsOrderOf order patches.now }
     requires apart { ArePatchesApart patches.now }
     requires inside { AreInDomain (domain given.problem.now given.level) patches.now }
-    requires cells { HasRegisterCells (around_of given patches.now) }
-    ensures layout { IfOk result (λ k. (own old : Masses) → ServesLevel (around_of given.entry patches.now) own old k) }
+    requires cells { HasRegisterCells (all_around given patches.now) }
+    ensures layout { IfOk result (λ k. (own old : Masses) → ServesLevel (all_around given.entry patches.now) own old k) }
     ensures count { IfOk result (λ k. 0 < length patches.now → length k.lots.lots.items ≡ lot_count wanted (length patches.now)) }
 {
     let alloc = given.alloc;
@@ -233,9 +233,9 @@ pub fn layout_for<R: Threads + Sync>(
     requires order { IsOrderOf order patches.now }
     requires apart { ArePatchesApart patches.now }
     requires inside { AreInDomain (domain given.problem.now given.level) patches.now }
-    requires cells { HasRegisterCells (around_of given patches.now) }
+    requires cells { HasRegisterCells (all_around given patches.now) }
     requires kept { IfSome kept.old (IsKeptOf given.problem.now given.level (masses_in patches.now) (coarser_masses given)) }
-    ensures layout { IfOk result (ServesLevel (around_of given.entry patches.now) (masses_in patches.now) (coarser_masses given.entry)) }
+    ensures layout { IfOk result (ServesLevel (all_around given.entry patches.now) (masses_in patches.now) (coarser_masses given.entry)) }
     ensures count { IfOk result (λ k. 0 < length patches.now → length k.lots.lots.items ≡ lot_count wanted (length patches.now)) }
     ensures kept { kept.new ≡ None }
 {

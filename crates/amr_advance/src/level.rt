@@ -52,6 +52,8 @@ pub struct StepInput<'a> {
     pub shared: Option<&'a Arc<Level, Global>>,
     pub finer: Option<&'a Level>,
     pub cells: &'a [Cell],
+    /// Whether the frames of the patches are filled beforehand. Else all patches of the level are worked on.
+    pub filled: bool,
     /// What the step is worked out from, for contracts alone.
     pub basis: &'a StepBasis,
 }

@@ -9,7 +9,7 @@ ghost use Rattle.amr_advance.specs.Crews.{MayRun, MayWork};
 ghost use Rattle.amr_advance.specs.KeptLayouts.{IsKeptOf};
 ghost use Rattle.amr_advance.specs.Outer.{IsSharedOf};
 ghost use Rattle.amr_advance.specs.Registers.{BothChange, cells_of};
-ghost use Rattle.amr_advance.specs.Steps.{HasAdvanced, HasNotAdvanced, LeavesStep, MayAdvance, MayStepPatches, around_of, coarser_masses, step_of};
+ghost use Rattle.amr_advance.specs.Steps.{HasAdvanced, HasNotAdvanced, LeavesStep, MayAdvance, MayStepPatches, all_around, coarser_masses, step_of};
 
 use crate::crew::{Crew, Workers};
 use crate::kept_layout::{KeptLayout, layout_for};
@@ -59,7 +59,7 @@ fn step_patches<R: Threads + Wait + Sync, G: Gate + Sync>(
     requires kept { IfSome kept.old (IsKeptOf given.problem.now given.level (masses_in patches.old) (coarser_masses given)) }
     requires crew { MayRun G.admits given.problem.now (length patches.old) workers.old }
     ensures workers { workers.new ≡ workers.old }
-    ensures stepped { OnOk result (LeavesStep (around_of given.entry patches.old)
+    ensures stepped { OnOk result (LeavesStep (all_around given.entry patches.old)
         (coarser_masses given.entry) patches.new register.old register.new kept.new) }
     ensures boxes { map box patches.new ≡ map box patches.old }
     ensures apart { ArePatchesApart patches.new }
@@ -118,6 +118,7 @@ pub fn advance_kept<R: Threads + Wait + Sync, G: Gate + Sync>(
         shared,
         finer,
         cells: cells_of(&regs.coarser),
+        filled: false,
         basis: &basis,
     };
     let stepped = step_patches(workers, given, order, &mut patches, &mut regs.finer, kept);

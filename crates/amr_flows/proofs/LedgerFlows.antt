@@ -16,7 +16,7 @@ use Rattle.amr_laws.proofs.Sides.{sum_same}
 use Rattle.amr_patch.specs.declared.patches.Patch.{Patch}
 use Rattle.amr_patch.specs.Patches.{box, in_patches}
 use Rattle.amr_phase.specs.Plans.{total}
-use Rattle.amr_layout.specs.Surroundings.{Around, edge_count, edge_face}
+use Rattle.amr_layout.specs.Surroundings.{Around, around_masses, edge_count, edge_face}
 use Rattle.amr_layout.specs.Adds.{flows_of, word_total}
 use Rattle.amr_flows.specs.Words.{level_total}
 use Rattle.amr_flows.specs.Laws.{ArePatchesOf, InflowIsOfLevel, OutflowIsOfLevel, plain_size}
@@ -85,11 +85,11 @@ module _ (s : Around) (m old : Masses) (of : ArePatchesOf s.problem s.level m s.
 pub inflow_of_level : InflowIsOfLevel
 unfolding inflow_beside
 inflow_of_level p l m old fine ps cells of =
-    let s : Around = record { problem = p; level = l; patches = ps; whole = ps; cells = cells; finer = fine } in
+    let s : Around = around_masses p l ps cells fine in
     of_level s m old of is_in at_least_zero below_zero way_in 0 (first_word s m old)
 
 pub outflow_of_level : OutflowIsOfLevel
 unfolding outflow_beside
 outflow_of_level p l m old fine ps cells of =
-    let s : Around = record { problem = p; level = l; patches = ps; whole = ps; cells = cells; finer = fine } in
+    let s : Around = around_masses p l ps cells fine in
     of_level s m old of is_out below_zero at_least_zero way_out 1 (second_word s m old)

@@ -21,7 +21,7 @@ use Rattle.amr_patch.specs.declared.patches.Patch.{Patch}
 use Rattle.amr_patch.specs.Patches.{in_patches}
 use Rattle.amr_patch.proofs.Rows.{inside}
 use Rattle.amr_faces.specs.Faces.{passing, x_end, y_end}
-use Rattle.amr_layout.specs.Surroundings.{Around, edge_count, edge_face, inside as inner, inward, is_coarse_fine, is_open, x_start, y_start}
+use Rattle.amr_layout.specs.Surroundings.{Around, around_masses, edge_count, edge_face, inside as inner, inward, is_coarse_fine, is_open, x_start, y_start}
 use Rattle.amr_layout.specs.declared.FlowTo.{FlowTo}
 use Rattle.amr_layout.specs.Adds.{cell_beyond, flow_to, flows_of, goes_on, is_ledger_face, number_of, size_to, word_of, word_total}
 use Rattle.amr_layout.proofs.Going.{open_alone}
@@ -37,7 +37,7 @@ use Rattle.amr_flows.proofs.RegisterFlowsCells.{plus_none, child_of}
 module _ (p : Problem) (l : ℕ) (coarse fine old finer : Masses) (ps : List Patch) (k : ℕ) (d : Cell) (within : k < length (register_cells p l coarse fine)) where
   -- the level, its fluxes, and the register cell with number k
   abbrev pub level : Around
-  level = record { problem = p; level = suc l; patches = ps; whole = ps; cells = register_cells p l coarse fine; finer = finer }
+  level = around_masses p (suc l) ps (register_cells p l coarse fine) finer
 
   abbrev pub flux : Face → ℤ
   flux = flux_at p (suc l) fine old

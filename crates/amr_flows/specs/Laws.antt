@@ -12,7 +12,7 @@ use Rattle.amr_laws.specs.Sides.{inflow_beside, is_uncovered, outflow_beside}
 use Rattle.amr_patch.specs.declared.patches.Patch.{Patch}
 use Rattle.amr_patch.specs.Patches.{ArePatchesApart, box, in_patches}
 use Rattle.amr_faces.specs.Faces.{IsInDomain}
-use Rattle.amr_layout.specs.Surroundings.{Around}
+use Rattle.amr_layout.specs.Surroundings.{Around, around_masses}
 use Rattle.amr_register.specs.RegisterCells.{register_cells}
 use Rattle.amr_flows.specs.Words.{child_flows, level_total}
 
@@ -30,12 +30,12 @@ plain_size p l m old f = unsigned_abs (flux_at p l m old f)
 -- what flows out there (Berger and Colella: the fluxes of each level where it is the finest)
 abbrev pub InflowIsOfLevel : Type 0
 InflowIsOfLevel = (p : Problem) (l : ℕ) (m old fine : Masses) (ps : List Patch) (cells : List Cell) → ArePatchesOf p l m ps
-    → level_total (record { problem = p; level = l; patches = ps; whole = ps; cells = cells; finer = fine }) (plain_size p l m old) 0
+    → level_total (around_masses p l ps cells fine) (plain_size p l m old) 0
     ≡ inflow_beside p l (is_uncovered m fine) (flux_at p l m old)
 
 abbrev pub OutflowIsOfLevel : Type 0
 OutflowIsOfLevel = (p : Problem) (l : ℕ) (m old fine : Masses) (ps : List Patch) (cells : List Cell) → ArePatchesOf p l m ps
-    → level_total (record { problem = p; level = l; patches = ps; whole = ps; cells = cells; finer = fine }) (plain_size p l m old) 1
+    → level_total (around_masses p l ps cells fine) (plain_size p l m old) 1
     ≡ outflow_beside p l (is_uncovered m fine) (flux_at p l m old)
 
 -- what the patches of the finer level l + 1 add to the words of register cell k of level l: its gain less its loss is what comes
@@ -44,7 +44,7 @@ abbrev pub RegisterWordsAreOfChildren : Type 0
 RegisterWordsAreOfChildren = (p : Problem) (l : ℕ) (coarse fine : Level) (old finer : Masses) (ps : List Patch) (k : ℕ) (c : Cell)
     → IsLevel p l coarse → IsLevel p (suc l) fine → IsNestedLevel p l coarse fine → ArePatchesOf p (suc l) fine.masses ps
     → k < length (register_cells p l coarse.masses fine.masses)
-    → let s : Around = record { problem = p; level = suc l; patches = ps; whole = ps; cells = register_cells p l coarse.masses fine.masses; finer = finer } in
+    → let s : Around = around_masses p (suc l) ps (register_cells p l coarse.masses fine.masses) finer in
     let size : Face → ℕ = plain_size p (suc l) fine.masses old in
     pos (level_total s size (2 + 2 * k)) -ℤ pos (level_total s size (3 + 2 * k))
     ≡ net (child_flows p l fine.masses (flux_at p (suc l) fine.masses old)) (slice_index_or s.cells k c)

@@ -28,6 +28,19 @@ pub struct FramePlan {
     pub(crate) spans: Vec<GhostSpan>,
 }
 
+impl FramePlan {
+    ghost use Rattle.std.specs.Prelude.{◌≡◌, []};
+
+    /// A plan of no ghost cells, for patches whose frames are filled otherwise.
+    pub fn none(alloc: Global) -> FramePlan
+        ensures { result.spans.items ≡ [] }
+    {
+        FramePlan {
+            spans: Vec::new(alloc),
+        }
+    }
+}
+
 /// Adds the spans of the ghost cells of a strip beside a patch.
 fn plan_strip(
     p: &Problem,

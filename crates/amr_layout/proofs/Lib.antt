@@ -11,6 +11,7 @@ pub mod Planned
 mod FlowWords
 pub mod Samples
 pub mod OpenSides
+pub mod Among
 pub mod ByBoxes
 pub mod AlongSides
 pub mod Counts

@@ -18,5 +18,6 @@ pub record SameGround (s t : Around) : Type 0 where
   pub level : s.level ≡ t.level
   pub boxes : map box s.patches ≡ map box t.patches
   pub whole : map box s.whole ≡ map box t.whole
+  pub filled : s.filled ≡ t.filled
   pub cells : s.cells ≡ t.cells
   pub finer : has_open_side s.problem ≡ true → (c : Cell) → is_some (s.finer c) ≡ is_some (t.finer c)

@@ -1,5 +1,5 @@
 -- The faces on the edges of a patch, and what lies on their other side.
-use Rattle.std.specs.Prelude.{◌≡◌, ℕ, ◌+◌, ◌-◌, ◌*◌, Bool, false, ◌&&◌, not, cond, nat_lt}
+use Rattle.std.specs.Prelude.{◌≡◌, ℕ, ◌+◌, ◌-◌, ◌*◌, Bool, false, ◌&&◌, not, cond, nat_lt, true}
 use Rattle.std.specs.Prelude.{ℤ, pos, negsuc, neg_ℤ, ◌+ℤ◌, ◌<ℤ◌, List, Contains, IsTrue}
 use Rattle.std.specs.List.{All}
 use Rattle.std.specs.declared.option.Option.{Option}
@@ -19,13 +19,15 @@ use Rattle.amr_patch.specs.Levels.{level_of}
 use Rattle.amr_patch.specs.Patches.{in_patches}
 use Rattle.amr_faces.specs.Faces.{x_end, y_end}
 
--- a level with what lies around it: its problem and number, those of its patches that are worked on, all of its patches, the
--- register cells of the next coarser level in their order, and the masses of the next finer level
+-- a level with what lies around it: its problem and number, those of its patches that are worked on, all of its patches, whether the
+-- frames of those that are worked on are filled beforehand, the register cells of the next coarser level in their order, and the masses
+-- of the next finer level
 pub record Around : Type 0 where
   pub problem : Problem
   pub level : ℕ
   pub patches : List Patch
   pub whole : List Patch
+  pub filled : Bool
   pub cells : List Cell
   pub finer : Masses
 
@@ -34,13 +36,16 @@ abbrev pub finer_masses : Option Level → Masses
 finer_masses None = no_masses
 finer_masses (Some k) = (level_of k).masses
 
--- all of a level is worked on
-abbrev pub around : Problem → ℕ → List Patch → List Cell → Option Level → Around
-around p l ps cells finer = record { problem = p; level = l; patches = ps; whole = ps; cells = cells; finer = finer_masses finer }
+-- all of a level is worked on, which fills the frames
+abbrev pub around_masses : Problem → ℕ → List Patch → List Cell → Masses → Around
+around_masses p l ps cells finer = record { problem = p; level = l; patches = ps; whole = ps; filled = false; cells = cells; finer = finer }
 
--- of the same level these patches are
+abbrev pub around : Problem → ℕ → List Patch → List Cell → Option Level → Around
+around p l ps cells finer = around_masses p l ps cells (finer_masses finer)
+
+-- of the same level these patches are, whose frames are filled
 abbrev pub among : Around → List Patch → Around
-among s qs = record s { patches = qs }
+among s qs = record s { patches = qs; filled = true }
 
 -- they are some of the level's
 abbrev pub AreAmong : List Patch → List Patch → Type 0

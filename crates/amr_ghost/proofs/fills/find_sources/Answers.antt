@@ -12,7 +12,7 @@ use Rattle.amr_ghost.proofs.WholeFrames.{fills}
 use Rattle.amr_ghost.proofs.fills.find_sources.Goals as goal
 
 pub part_frames-requires-clause-enough : goal.part_frames-requires-clause-enough
-part_frames-requires-clause-enough c = plan_small (domain c.args.p.now c.args.l) c.args.patches.now c.in_ok-plan.plan c.max.result 1 c.in_ok-plan.ensures (omega arith)
+part_frames-requires-clause-enough c = plan_small (domain c.args.p.now c.args.l) c.args.patches.now c.in_ok-plan.plan c.max.result 1 c.in_ok-plan.ensures.spans (omega arith)
 
 pub find_values-requires-clause-spans : goal.find_values-requires-clause-spans
 find_values-requires-clause-spans c =
@@ -20,7 +20,7 @@ find_values-requires-clause-spans c =
     let d = domain c.args.p.now c.args.l in
     let parts = c.in_ok-parts in
     All-same (IsOuterSpan d) c.in_ok-outer.outer.spans.items (get_or parts.parts.outer.items 0 v).items (ap (λ (x : Vec GhostSpan). x.items) c.in_ok-outer.ensures.spans ∙ c.in_ok-spans.ensures.items ∙ c.deref.ensures.value ∙ ap (λ (x : Vec GhostSpan). x.items) c.index.ensures)
-    (outer_spans d c.args.patches.now c.in_ok-plan.plan c.max.result 1 parts.parts c.in_ok-plan.ensures parts.ensures 0 v (omega arith))
+    (outer_spans d c.args.patches.now c.in_ok-plan.plan c.max.result 1 parts.parts c.in_ok-plan.ensures.spans parts.ensures 0 v (omega arith))
 
 pub returns : goal.returns
 returns c =

@@ -15,7 +15,7 @@ use Rattle.amr_ghost.specs.GhostCells.{KeepsCells}
 use Rattle.amr_tests_levels.proofs.plans.fill_by.Goals as goal
 
 pub part_frames-requires-clause-enough : goal.part_frames-requires-clause-enough
-part_frames-requires-clause-enough c = plan_small (domain c.args.p.now 0) c.args.patches.now c.args.plan.now (length c.args.patches.now) 1 c.requires.plan (omega arith)
+part_frames-requires-clause-enough c = plan_small (domain c.args.p.now 0) c.args.patches.now c.args.plan.now (length c.args.patches.now) 1 c.requires.plan.spans (omega arith)
 
 pub outer_of-requires : goal.outer_of-requires
 outer_of-requires c =
@@ -24,7 +24,7 @@ outer_of-requires c =
     let d = domain c.args.p.now 0 in
     let parts = c.in_ok-parts in
     All-same (IsOuterSpan d) c.deref.result.now (get_or parts.parts.outer.items 0 v).items (c.deref.ensures.value ∙ ap (λ (x : Vec GhostSpan). x.items) c.index.ensures)
-    (outer_spans d ps c.args.plan.now (length ps) 1 parts.parts c.requires.plan parts.ensures 0 v (omega arith))
+    (outer_spans d ps c.args.plan.now (length ps) 1 parts.parts c.requires.plan.spans parts.ensures 0 v (omega arith))
 
 -- all patches are one run
 whole : (ps : List Patch) → IsRun (length ps) 0 ps ps
@@ -42,7 +42,7 @@ fill_run-requires-clause-outer c =
     let d = domain c.args.p.now 0 in
     let parts = c.in_ok-parts in
     c.in_ok-outer.ensures ps (All-same (IsSpanBeside ps) c.deref.result.now (get_or parts.parts.outer.items 0 v).items (c.deref.ensures.value ∙ ap (λ (x : Vec GhostSpan). x.items) c.index.ensures)
-    (outer_beside d ps ps c.args.plan.now (length ps) 1 parts.parts c.requires.plan parts.ensures (zip_refl KeepsCells keeps_refl ps) 0 ps v (omega arith) (whole ps)))
+    (outer_beside d ps ps c.args.plan.now (length ps) 1 parts.parts c.requires.plan.spans parts.ensures (zip_refl KeepsCells keeps_refl ps) 0 ps v (omega arith) (whole ps)))
 
 pub fill_run-requires-clause-copies : goal.fill_run-requires-clause-copies
 fill_run-requires-clause-copies c =
@@ -52,7 +52,7 @@ fill_run-requires-clause-copies c =
     let parts = c.in_ok-parts in
     let kept = zip_refl KeepsCells keeps_refl ps in
     let within : All (IsFrameCopy ps) (get_or parts.parts.copies.items 0 v).items = λ k x lt. (
-      copies_taken d ps ps c.args.plan.now (length ps) 1 parts.parts c.requires.plan parts.ensures kept 0 0 ps v (omega arith) (omega arith) (whole ps) k x lt,
-      copies_received d ps ps c.args.plan.now (length ps) 1 parts.parts c.requires.plan parts.ensures kept 0 0 ps v (omega arith) (omega arith) (whole ps) k x lt,
+      copies_taken d ps ps c.args.plan.now (length ps) 1 parts.parts c.requires.plan.spans parts.ensures kept 0 0 ps v (omega arith) (omega arith) (whole ps) k x lt,
+      copies_received d ps ps c.args.plan.now (length ps) 1 parts.parts c.requires.plan.spans parts.ensures kept 0 0 ps v (omega arith) (omega arith) (whole ps) k x lt,
     ) in
     All-same (IsFrameCopy ps) c.deref-2.result.now (get_or parts.parts.copies.items 0 v).items (c.deref-2.ensures.value ∙ ap (λ (x : Vec FrameCopy). x.items) c.index-2.ensures) within
