@@ -183,7 +183,6 @@ pub record IsFinePlan (s : Around) (each : ℕ) (e : Face → ℕ) (fine : PlanO
   pub is_plan : IsPlan fine
 
 module _ {s : Around} {old : Masses} {t : Lots} (level : IsInStep s old t) (several : AreSeveralLots s level.lots.parts t) where
-
   abbrev e : Fluxes
   e = flux_at s.problem s.level (masses_in s.whole) old
 

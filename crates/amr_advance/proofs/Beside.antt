@@ -58,7 +58,7 @@ use Rattle.amr_advance.specs.Phases.{ArePieces, IsBasisOf, IsPiece, MayBeRun, pl
 use Rattle.amr_advance.proofs.Begin.{IsFinePlan, flux_is, is_plan, merged, one, size_is}
 use Rattle.amr_advance.proofs.Delivered.{all_may_send, can_fill, has_lists}
 use Rattle.amr_advance.proofs.InDomain.{all_lie}
-use Rattle.amr_advance.proofs.InLots.{IsInStep, adds, all_owned, all_show, run_flows, run_small}
+use Rattle.amr_advance.proofs.InLots.{IsInStep, adds, all_owned, all_show, own_inside, run_flows, run_small}
 use Rattle.amr_advance.proofs.LotsHanded.{AreDelivered, HaveLists}
 use Rattle.amr_advance.proofs.Merged.{merged_face}
 use Rattle.amr_advance.proofs.RunLists.{same_run}
@@ -132,7 +132,6 @@ total_map f g [] = refl
 total_map f g (x ∷ xs) = ap (λ n. f (g x) + n) (total_map f g xs)
 
 module _ {s : Around} {old : Masses} {t : Lots} (level : IsInStep s old t) (several : AreSeveralLots s level.lots.parts t) where
-
   abbrev e : Fluxes
   e = flux_at s.problem s.level (masses_in s.whole) old
 
@@ -199,12 +198,12 @@ module _ {s : Around} {old : Masses} {t : Lots} (level : IsInStep s old t) (seve
       of_all P h = λ i q below. subst P (sym (run_at t.each s.patches k i q below)) (h (k * t.each + i) q (run_place t.each s.patches k i below))
 
       numbers : LevelStepFits w.basis.value.problem.value w.level (masses_of w.basis.value) (coarser_of w.basis.value)
-      numbers = at_level (λ o n. LevelStepFits o n (masses_of w.basis.value) (coarser_of w.basis.value)) (at_masses (LevelStepFits s.problem s.level) level.fits)
+      numbers = at_level (λ o n. LevelStepFits o n (masses_of w.basis.value) (coarser_of w.basis.value)) (at_masses (LevelStepFits s.problem s.level) level.may.fits)
 
       of_level : All (λ q. (c : Cell) → IsTrue (holds (box q) c) → masses_of w.basis.value c ≡ Some (mass_in q c)) (patches_of w)
       of_level = at_run (All (λ q. (c : Cell) → IsTrue (holds (box q) c) → masses_of w.basis.value c ≡ Some (mass_in q c)))
           (of_all (λ q. (c : Cell) → IsTrue (holds (box q) c) → masses_of w.basis.value c ≡ Some (mass_in q c))
-          (λ j q there c held. (λ i. masses_are i c) ∙ masses_in-at s.patches c j q level.apart (record { inside = there; holds_it = λ g. ap (λ (r : Patch). holds (box r) c) (same_default s.patches j g q there) ∙ held })))
+          (λ j q there c held. (λ i. masses_are i c) ∙ mass_among s.whole (get_or s.patches j q) level.may.apart (level.may.worked_on j q there) c held))
 
       fill : CanFill w.basis.value.problem.value w.level (patches_of w) w.lot.value.workspace
       fill = at_level (λ o n. CanFill o n (patches_of w) w.lot.value.workspace) (at_lot (λ z. CanFill s.problem s.level (patches_of w) z.workspace) (can_fill level k lt y of.serves (patches_of w) patches_are))
@@ -304,7 +303,7 @@ module _ {s : Around} {old : Masses} {t : Lots} (level : IsInStep s old t) (seve
 
       beside : MayStepBeside plan w
       beside = record {
-        inside = at_level (λ o n. All (λ q. IsInDomain (domain o n) (box q)) (patches_of w)) (at_run (All (λ q. IsInDomain (domain s.problem s.level) (box q))) (of_all (λ q. IsInDomain (domain s.problem s.level) (box q)) (λ j q there. all_lie s.problem s.level s.patches level.inside j q there)));
+        inside = at_level (λ o n. All (λ q. IsInDomain (domain o n) (box q)) (patches_of w)) (at_run (All (λ q. IsInDomain (domain s.problem s.level) (box q))) (of_all (λ q. IsInDomain (domain s.problem s.level) (box q)) (λ j q there. all_lie s.problem s.level s.patches (own_inside level) j q there)));
         numbers = numbers;
         of_level = of_level;
         fill = fill;

@@ -31,7 +31,7 @@ use Rattle.amr_advance.specs.declared.lots.Lots.{Lots}
 use Rattle.amr_advance.specs.Lots.{CarryMasses, ServesRun}
 use Rattle.amr_advance.specs.Handed.{AreExchanged}
 use Rattle.amr_advance.proofs.Boxes.{IsPackedFrom, all_packed, box_copies, box_crossed, box_packed}
-use Rattle.amr_advance.proofs.InLots.{IsInStep}
+use Rattle.amr_advance.proofs.InLots.{IsInStep, lot_spans}
 use Rattle.amr_advance.proofs.LotsHanded.{AreDelivered, AreRunLots, AreSentFrom, HaveLists, HaveRuns, same_patches, still_lots}
 use Rattle.amr_advance.proofs.RunLists.{run_alone, run_is}
 use Rattle.amr_advance.proofs.Served.{plan_exchanged, plan_sent, same_inbox}
@@ -47,13 +47,13 @@ module _ {s : Around} {old : Masses} {t : Lots} (level : IsInStep s old t) where
   copies u k v = (get_or level.lots.parts.copies.items (u * length t.lots.items + k) v).items
 
   pub taken : (u k : ℕ) (v : Vec FrameCopy) → u < runs → k < runs → All (IsTaken (run t.each u s.patches)) (copies u k v)
-  taken u k v from_there there = copies_taken (domain s.problem s.level) s.patches s.patches level.lots.plan t.each runs parts level.lots.planned level.lots.parted (same_patches level) u k (run t.each u s.patches) v from_there there (run_is t.each u s.patches)
+  taken u k v from_there there = copies_taken (domain s.problem s.level) s.patches s.patches level.lots.plan t.each runs parts (lot_spans s t level.lots) level.lots.parted (same_patches level) u k (run t.each u s.patches) v from_there there (run_is t.each u s.patches)
 
   received : (u k : ℕ) (v : Vec FrameCopy) → u < runs → k < runs → All (IsReceived (run t.each k s.patches)) (copies u k v)
-  received u k v from_there there = copies_received (domain s.problem s.level) s.patches s.patches level.lots.plan t.each runs parts level.lots.planned level.lots.parted (same_patches level) u k (run t.each k s.patches) v from_there there (run_is t.each k s.patches)
+  received u k v from_there there = copies_received (domain s.problem s.level) s.patches s.patches level.lots.plan t.each runs parts (lot_spans s t level.lots) level.lots.parted (same_patches level) u k (run t.each k s.patches) v from_there there (run_is t.each k s.patches)
 
   beside : (k : ℕ) (v : Vec GhostSpan) → k < runs → All (IsSpanBeside (run t.each k s.patches)) (get_or level.lots.parts.outer.items k v).items
-  beside k v there = outer_beside (domain s.problem s.level) s.patches s.patches level.lots.plan t.each runs parts level.lots.planned level.lots.parted (same_patches level) k (run t.each k s.patches) v there (run_is t.each k s.patches)
+  beside k v there = outer_beside (domain s.problem s.level) s.patches s.patches level.lots.plan t.each runs parts (lot_spans s t level.lots) level.lots.parted (same_patches level) k (run t.each k s.patches) v there (run_is t.each k s.patches)
 
   -- ---- the messages packed
 
@@ -73,7 +73,7 @@ module _ {s : Around} {old : Masses} {t : Lots} (level : IsInStep s old t) where
       all = h;
       packed = λ k x lt i m below.
           let y : Message = get_or (get_or xs k x).value.workspace.outbox.items i m in
-          carries_packed t.each k s.patches (run t.each k s.patches) level.apart (run_is t.each k s.patches) y.copies.items y.masses.items (sends k x lt i m below).0 (carried k x (omega (arith, lt, h.lots.count)) i m below);
+          carries_packed t.each k s.patches (run t.each k s.patches) level.may.once (run_is t.each k s.patches) y.copies.items y.masses.items (sends k x lt i m below).0 (carried k x (omega (arith, lt, h.lots.count)) i m below);
     }
 
     -- and so is what they pack now
@@ -151,7 +151,7 @@ module _ {s : Around} {old : Masses} {t : Lots} (level : IsInStep s old t) where
   pub can_fill : (k : ℕ) → k < length t.lots.items → (x : Workspace) → ServesRun s t.each k (length t.lots.items) level.lots.parts x → (rs : List Patch) → rs ≡ run t.each k s.patches → CanFill s.problem s.level rs x
   can_fill k lt x of rs is = record {
     level = level.shallow;
-    spans = All-same (IsOuterSpan (domain s.problem s.level)) x.outer.spans.items (get_or level.lots.parts.outer.items k x.outer.spans).items (of.outer x.outer.spans) (outer_spans (domain s.problem s.level) s.patches level.lots.plan t.each runs parts level.lots.planned level.lots.parted k x.outer.spans lt);
+    spans = All-same (IsOuterSpan (domain s.problem s.level)) x.outer.spans.items (get_or level.lots.parts.outer.items k x.outer.spans).items (of.outer x.outer.spans) (outer_spans (domain s.problem s.level) s.patches level.lots.plan t.each runs parts (lot_spans s t level.lots) level.lots.parted k x.outer.spans lt);
     outer = subst (λ rs. AreOuterBeside rs x.outer) (sym is) (All-same (IsSpanBeside (run t.each k s.patches)) x.outer.spans.items (get_or level.lots.parts.outer.items k x.outer.spans).items (of.outer x.outer.spans) (beside k x.outer.spans lt), of.outer_places);
     copies = subst (λ rs. All (IsFrameCopy rs) x.copies.items) (sym is) (All-same (IsFrameCopy (run t.each k s.patches)) x.copies.items (copies k k x.copies) (of.copies x.copies) (λ i c below. (taken k k x.copies lt lt i c below, received k k x.copies lt lt i c below)));
     messages = subst (λ rs. All (IsMessageTo rs) x.inbox.items) (sym is) (box_copies of.inbox (IsReceived (run t.each k s.patches)) x.copies (λ u there. received u k x.copies there lt));

@@ -58,7 +58,6 @@ adds_same s each e word [] = refl
 adds_same s each e word (q ∷ qs) = λ i. flows_total e word (flows_of s (box q)) i ∷ adds_same s each e word qs i
 
 module _ (s : Around) (old : Masses) (each : ℕ) where
-
   abbrev d : Domain
   d = domain s.problem s.level
 

@@ -56,21 +56,25 @@ same_words f g word (x ∷ xs) h =
     let rest = same_words f g word xs (λ k d lt. h (suc k) d (omega (arith, lt))) in
     λ i. (if x.word == word then here i else 0) + rest i
 
--- a level in its step, with its lots
-pub record IsInStep (p : Problem) (l : ℕ) (old : Masses) (ps : List Patch) (cells : List Cell) (next : Option Held) (t : Lots) : Type 0 where
-  pub shallow : l ≤ 4
-  pub apart : ArePatchesApart ps
-  pub inside : AreInDomain (domain p l) ps
-  pub fits : LevelStepFits p l (masses_in ps) old
-  pub lots : AreLots (around p l ps cells next) t
+-- patches of a level in their step, in lots
+pub record IsInStep (s : Around) (old : Masses) (t : Lots) : Type 0 where
+  pub may : MayStepLevel s old
+  pub lots : AreLots s t
 
-pub in_step : (p : Problem) (l : ℕ) (old : Masses) (ps : List Patch) (cells : List Cell) (next : Option Held) (t : Lots) → MayStepLevel (around p l ps cells next) old → AreLots (around p l ps cells next) t → IsInStep p l old ps cells next t
-in_step p l old ps cells next t may lots = record { shallow = may.level; apart = may.apart; inside = may.inside; fits = may.fits; lots = lots }
+pub in_step : (s : Around) (old : Masses) (t : Lots) → MayStepLevel s old → AreLots s t → IsInStep s old t
+in_step s old t may lots = record { may = may; lots = lots }
+
+-- a plan of frames has spans beside the patches
+spans_of : (filled : Bool) (d : Domain) (ps : List Patch) (plan : FramePlan) → PlansUnlessFilled filled d ps plan → All (IsSpan d ps) plan.spans.items
+spans_of false d ps plan h = h.spans
+spans_of true d ps plan h = All-same (IsSpan d ps) plan.spans.items [] h (λ k x lt. absurd (omega (arith, lt)))
+
+pub lot_spans : (s : Around) (t : Lots) (lots : AreLots s t) → All (IsSpan (domain s.problem s.level) s.patches) lots.plan.spans.items
+lot_spans s t lots = spans_of s.filled (domain s.problem s.level) s.patches lots.plan lots.planned
 
 module _ {s : Around} {old : Masses} {t : Lots} (level : IsInStep s old t) where
   abbrev e : Fluxes
   e = flux_at s.problem s.level (masses_in s.whole) old
-
 
   abbrev runs : ℕ
   runs = length t.lots.items
@@ -86,8 +90,12 @@ module _ {s : Around} {old : Masses} {t : Lots} (level : IsInStep s old t) where
   abbrev pub run_flows : ℕ → List (List FlowTo)
   run_flows k = map (λ (q : Patch). flows_of s (box q)) (run t.each k s.patches)
 
+  -- its patches are cells of the domain
+  pub own_inside : AreInDomain (domain s.problem s.level) s.patches
+  own_inside = inside_among (domain s.problem s.level) s.whole s.patches level.may.worked_on level.may.inside
+
   pub totals_small : (word : ℕ) → level_total s (plain_size s.problem s.level (masses_in s.whole) old) word ≤ 2 ^ 61
-  totals_small word = omega (arith, level_few s (plain_size s.problem s.level (masses_in s.whole) old) level.fits.fluxes word s.patches, level.lots.edges)
+  totals_small word = omega (arith, level_few s (plain_size s.problem s.level (masses_in s.whole) old) level.may.fits.fluxes word s.patches, level.lots.edges)
 
   -- no run adds more
   pub run_small : (k word : ℕ) → total (adds word) (run t.each k s.patches) ≤ 2 ^ 61
@@ -104,8 +112,8 @@ module _ {s : Around} {old : Masses} {t : Lots} (level : IsInStep s old t) where
     pub valued : HasValuesBy s.problem s.level old given
     valued = found.values old values
 
-    outer_for : AreOuterFor (value_at s.problem s.level (masses_in s.whole) old) (is_of_level s.problem s.level (masses_in s.whole)) given
-    outer_for = outer_valued s.problem s.level old s.patches level.lots.plan t.each runs parts level.lots.planned level.lots.parted level.inside k given.spans given lt spans valued
+    outer_for : AreOuterFor (value_at s.problem s.level (masses_in s.patches) old) (is_of_level s.problem s.level (masses_in s.patches)) given
+    outer_for = outer_valued s.problem s.level old s.patches level.lots.plan t.each runs parts (lot_spans s t level.lots) level.lots.parted (own_inside) k given.spans given lt spans valued
 
     by_parts : HasFilled given (get_or level.lots.parts.copies.items (k * length t.lots.items + k) x.copies).items x.inbox.items (run t.each k s.patches) fs
     by_parts = subst (λ cs. HasFilled given cs x.inbox.items (run t.each k s.patches) fs) (of.copies x.copies) filled
@@ -130,22 +138,39 @@ module _ {s : Around} {old : Masses} {t : Lots} (level : IsInStep s old t) where
       keeps : KeepsCells (get_or s.patches j q) (get_or fs i q)
       keeps = subst (λ (x : Patch). KeepsCells x (get_or fs i q)) (run_at t.each s.patches k i q in_run) (AllZip-get_or KeepsCells (run t.each k s.patches) fs i q q filled.kept in_run)
 
-      frame : HasFrame s.problem s.level (masses_in s.whole) old (get_or fs i q)
-      frame =
-          run_frames s.problem s.level old s.patches s.patches (run t.each k s.patches) fs level.lots.plan t.each runs k level.lots.parts x.copies x.inbox.items level.lots.planned level.lots.parted (zip_refl KeepsCells keeps_refl s.patches) lt (run_is t.each k s.patches) level.apart
+      frame : PlansFrames (domain s.problem s.level) s.patches level.lots.plan → HasFrame s.problem s.level (masses_in s.patches) old (get_or fs i q)
+      frame planned =
+          run_frames s.problem s.level old s.patches s.patches (run t.each k s.patches) fs level.lots.plan t.each runs k level.lots.parts x.copies x.inbox.items planned level.lots.parted (zip_refl KeepsCells keeps_refl s.patches) lt (run_is t.each k s.patches) level.may.once
           given.spans given spans outer_for sent by_parts i q in_run
 
+      -- its frame is filled now, or was beforehand
+      filled_frame : HasGhostValues s.problem s.level (masses_in s.whole) old (get_or fs i q)
+      filled_frame = by_case s.filled level.lots.planned level.may.framed
+        where
+          by_case : (b : Bool) → PlansUnlessFilled b (domain s.problem s.level) s.patches level.lots.plan → AreFramed b s old → HasGhostValues s.problem s.level (masses_in s.whole) old (get_or fs i q)
+          by_case false planned whole = subst (λ (ps : List Patch). HasGhostValues s.problem s.level (masses_in ps) old (get_or fs i q)) (sym whole) (λ c h. ((frame planned).at c h).valued)
+          by_case true none framed =
+              still_filled level.lots.plan t.each runs level.lots.parts none level.lots.parted s.problem s.level (masses_in s.whole) old k lt (run t.each k s.patches) fs given spans x.copies x.inbox.items of.inbox by_parts i q in_run
+              (subst (HasGhostValues s.problem s.level (masses_in s.whole) old) (sym (run_at t.each s.patches k i q in_run)) (framed j q in_ps))
+
+      -- its patch among all of the level
+      there : Contains s.whole (get_or s.patches j q)
+      there = level.may.worked_on j q in_ps
+
+      same : KeepsCells (get_or s.whole there.0 (get_or s.patches j q)) (get_or fs i q)
+      same = subst (λ (x : Patch). KeepsCells x (get_or fs i q)) (sym there.2) keeps
+
       shows : ShowsValues s.problem s.level (masses_in s.whole) old (get_or fs i q)
-      shows = OnePatch.frame_shows s.problem s.level old s.patches level.apart level.inside j q in_ps (get_or fs i q) keeps.of_box keeps.masses frame
+      shows = OnePatch.frame_shows s.problem s.level old s.whole level.may.apart level.may.inside there.0 (get_or s.patches j q) there.1 (get_or fs i q) same.of_box same.masses filled_frame
 
       box_is : box (get_or fs i q) ≡ box (get_or (run t.each k s.patches) i q)
       box_is = keeps.of_box ∙ ap box (sym (run_at t.each s.patches k i q in_run))
 
       lies : IsInDomain (domain s.problem s.level) (box (get_or fs i q))
-      lies = OnePatch.lies s.problem s.level old s.patches level.apart level.inside j q in_ps (get_or fs i q) keeps.of_box keeps.masses
+      lies = OnePatch.lies s.problem s.level old s.whole level.may.apart level.may.inside there.0 (get_or s.patches j q) there.1 (get_or fs i q) same.of_box same.masses
 
       may : MayStep s.problem s.level (get_or fs i q)
-      may = OnePatch.may_step s.problem s.level old s.patches level.apart level.inside j q in_ps (get_or fs i q) keeps.of_box keeps.masses shows level.shallow level.fits
+      may = OnePatch.may_step s.problem s.level old s.whole level.may.apart level.may.inside there.0 (get_or s.patches j q) there.1 (get_or fs i q) same.of_box same.masses shows level.may.level level.may.fits
 
       on_edges : All (λ (x : FlowTo). (is_edge_face (box (get_or fs i q)) x.face ≡ true) × (is_face_of (box (get_or fs i q)) x.face ≡ true)) (flows_of s (box (get_or fs i q)))
       on_edges = λ n x below.
@@ -163,11 +188,11 @@ module _ {s : Around} {old : Masses} {t : Lots} (level : IsInStep s old t) where
       adds_here word xs is =
           ap (word_total (λ (f : Face). unsigned_abs (flux_beside s.problem s.level (get_or fs i q) f)) word) is
           ∙ same_words (λ (f : Face). unsigned_abs (flux_beside s.problem s.level (get_or fs i q) f)) (plain_size s.problem s.level (masses_in s.whole) old) word (flows_of s (box (get_or fs i q)))
-          (λ n x below. ap unsigned_abs (OnePatch.plain_at s.problem s.level old s.patches level.apart level.inside j q in_ps (get_or fs i q) keeps.of_box keeps.masses shows (get_or (flows_of s (box (get_or fs i q))) n x).face (on_edges n x below).1))
+          (λ n x below. ap unsigned_abs (OnePatch.plain_at s.problem s.level old s.whole level.may.apart level.may.inside there.0 (get_or s.patches j q) there.1 (get_or fs i q) same.of_box same.masses shows (get_or (flows_of s (box (get_or fs i q))) n x).face (on_edges n x below).1))
           ∙ ap (λ (b : Extent). word_total (plain_size s.problem s.level (masses_in s.whole) old) word (flows_of s b)) box_is
 
       pub steps : (r : Patch) → HasStepped s.problem s.level (get_or fs i q) r → IsStepped (flux_at s.problem s.level (masses_in s.whole) old) (get_or s.patches (k * t.each + i) q) r
-      steps r h = OnePatch.steps s.problem s.level old s.patches level.apart level.inside j q in_ps (get_or fs i q) keeps.of_box keeps.masses shows r h.of_box h.masses
+      steps r h = subst (λ (z : Patch). IsStepped (flux_at s.problem s.level (masses_in s.whole) old) z r) there.2 (OnePatch.steps s.problem s.level old s.whole level.may.apart level.may.inside there.0 (get_or s.patches j q) there.1 (get_or fs i q) same.of_box same.masses shows r h.of_box h.masses)
 
     pub all_show : All (ShowsValues s.problem s.level (masses_in s.whole) old) fs
     all_show = λ i q lt_i. shows i q lt_i

@@ -109,6 +109,10 @@ module _ (s t : Around) (g : SameGround s t) (each : ℕ) where
 same_frames : (p r : Problem) (l m : ℕ) (ps qs : List Patch) (f : FramePlan) → p ≡ r → l ≡ m → map box ps ≡ map box qs → PlansFrames (domain p l) ps f → PlansFrames (domain r m) qs f
 same_frames p r l m ps qs f problem level boxes h = plan_of_boxes (domain r m) ps qs boxes f (subst (λ d. PlansFrames d ps f) (λ i. domain (problem i) (level i)) h)
 
+same_planned : (b c : Bool) (p r : Problem) (l m : ℕ) (ps qs : List Patch) (f : FramePlan) → b ≡ c → p ≡ r → l ≡ m → map box ps ≡ map box qs → PlansUnlessFilled b (domain p l) ps f → PlansUnlessFilled c (domain r m) qs f
+same_planned false c p r l m ps qs f e problem level boxes h = subst (λ (t : Bool). PlansUnlessFilled t (domain r m) qs f) e (same_frames p r l m ps qs f problem level boxes h)
+same_planned true c p r l m ps qs f e problem level boxes h = subst (λ (t : Bool). PlansUnlessFilled t (domain r m) qs f) e h
+
 -- and so the faces on edges
 edges_of_boxes : (qs : List Patch) → total (λ (b : Extent). edge_count b) (map box qs) ≡ total (λ q. edge_count (box q)) qs
 edges_of_boxes [] = refl
@@ -204,15 +208,15 @@ same_lots s t x g h = record {
   many = h.many;
   edges = subst (λ n. n ≤ 2 ^ 30) (same_edges s.patches t.patches g.boxes) h.edges;
   plan = h.plan;
-  planned = same_frames s.problem t.problem s.level t.level s.patches t.patches h.plan g.problem g.level g.boxes h.planned;
+  planned = same_planned s.filled t.filled s.problem t.problem s.level t.level s.patches t.patches h.plan g.filled g.problem g.level g.boxes h.planned;
   parts = h.parts;
   parted = h.parted;
   made = same_made s t g h.parts x (is_one x) h.made;
 }
 
 -- a layout made for the same surroundings serves here
-pub serves_here : (t : Around) (k : KeptLayout) → IsKeptLayout t.problem k → k.level ≡ t.level → map box t.patches ≡ k.boxes.items → k.cells.items ≡ t.cells → (has_open_side t.problem ≡ true → (c : Cell) → is_some (t.finer c) ≡ in_boxes k.finer.items c) → IsLaidOut t k
-serves_here t k h level boxes cells finer =
+pub serves_here : (t : Around) (k : KeptLayout) → t.whole ≡ t.patches → t.filled ≡ false → IsKeptLayout t.problem k → k.level ≡ t.level → map box t.patches ≡ k.boxes.items → k.cells.items ≡ t.cells → (has_open_side t.problem ≡ true → (c : Cell) → is_some (t.finer c) ≡ in_boxes k.finer.items c) → IsLaidOut t k
+serves_here t k all unfilled h level boxes cells finer =
     let s = h.made_for in
     let made = h.laid_out in
     let same : map box s.patches ≡ map box t.patches = sym made.boxes ∙ sym boxes in
@@ -223,7 +227,7 @@ serves_here t k h level boxes cells finer =
       cells = cells;
       finer = finer;
       few = subst (λ (cs : List Cell). 2 + 2 * length cs < 2 ^ 32) (sym made.cells ∙ cells) made.few;
-      lots = same_lots s t k.lots (record { problem = h.of_problem; level = sym made.level ∙ level; boxes = same; cells = sym made.cells ∙ cells; finer = λ e c. made.finer e c ∙ sym (finer (opened ∙ e) c) }) made.lots;
+      lots = same_lots s t k.lots (record { problem = h.of_problem; level = sym made.level ∙ level; boxes = same; whole = ap (map box) h.all ∙ same ∙ sym (ap (map box) all); filled = h.unfilled ∙ sym unfilled; cells = sym made.cells ∙ cells; finer = λ e c. made.finer e c ∙ sym (finer (opened ∙ e) c) }) made.lots;
     }
 
 -- and where its lots become others of the same patches
@@ -239,7 +243,7 @@ with_flags : (s : Around) (t : Lots) (packed valued : Bool) → AreLots s t → 
 with_flags s t packed valued h = lots_again s t t.lots t.totals packed valued refl h (flags_made s h.parts t packed valued (is_one t) h.made)
 
 kept_with : (p : Problem) (k : KeptLayout) (u : Lots) → ((s : Around) → AreLots s k.lots → AreLots s u) → IsKeptLayout p k → IsKeptLayout p (record k { lots = u })
-kept_with p k u still h = record { made_for = h.made_for; of_problem = h.of_problem; laid_out = with_lots h.made_for k u h.laid_out (still h.made_for h.laid_out.lots) }
+kept_with p k u still h = record { made_for = h.made_for; of_problem = h.of_problem; unfilled = h.unfilled; all = h.all; laid_out = with_lots h.made_for k u h.laid_out (still h.made_for h.laid_out.lots) }
 
 -- what is kept of masses that are not stale is kept, where no more than that stands in the lots
 pub forgotten : (stale : Stale) (k : KeptLayout) (packed valued : Bool) → (packed ≡ true → (k.lots.packed ≡ true) × (stale.own ≡ false)) → (valued ≡ true → (k.lots.valued ≡ true) × (stale.coarser ≡ false)) → Forgets stale (Some k) (Some (record k { lots = record k.lots { packed = packed; valued = valued } }))

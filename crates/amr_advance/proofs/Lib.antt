@@ -1,3 +1,4 @@
+pub mod AllPatches
 pub mod Absorbed
 pub mod Advancing
 pub mod BackEdges
@@ -7,6 +8,7 @@ pub mod Boxes
 pub mod Corrected
 pub mod CorrectedLots
 pub mod Delivered
+pub mod FilledFrames
 pub mod FinePlan
 pub mod InDomain
 pub mod InLots

@@ -53,7 +53,6 @@ all_exchanged v lent xs is h = when_lent AreExchanged v lent xs is (length_all_z
 -- ---- the lots of a level, up to where they make their step
 
 module _ {s : Around} {old : Masses} {t : Lots} (level : IsInStep s old t) where
-
   abbrev runs : ℕ
   runs = length t.lots.items
 

@@ -49,7 +49,6 @@ use Rattle.amr_advance.proofs.RunZips.{zip_runs}
 use Rattle.amr_advance.proofs.Served.{KeepsPlan, plan_handed, plan_lent, plan_stepped, same_inbox, same_outbox}
 
 module _ {s : Around} {old : Masses} {t : Lots} (level : IsInStep s old t) where
-
   abbrev e : Fluxes
   e = flux_at s.problem s.level (masses_in s.whole) old
 
@@ -244,7 +243,7 @@ module _ {s : Around} {old : Masses} {t : Lots} (level : IsInStep s old t) where
             (subst (λ rs. All (IsPackedFrom rs) (get_or xs k x).value.workspace.outbox.items) (sym (back k x (omega (arith, there, h.count)))) (h.packed k x there)) in
             let takes : All (λ (m : Message). All (IsTaken (run t.each k zs)) m.copies.items × HasPlaces m) b.workspace.outbox.items =
             box_copies (last_of k x there).serves.outbox (IsTaken (run t.each k zs)) b.workspace.copies (λ j to n c under. taken_of_boxes (run t.each k s.patches) (run t.each k zs) (run_boxes k) _ (taken level k j b.workspace.copies there to n c under)) in
-            packed_carries t.each k zs (run t.each k zs) (apart_alike s.patches zs same_boxes level.apart) (run_is t.each k zs) y.copies.items y.masses.items (takes i m below).0 (packed i m below)
+            packed_carries t.each k zs (run t.each k zs) (apart_alike s.patches zs same_boxes level.may.once) (run_is t.each k zs) y.copies.items y.masses.items (takes i m below).0 (packed i m below)
 
         -- and they are the lots of the level again
         pub lot_again : AreSeveralLots s parts t → HaveNoEdges level last → (k : ℕ) (x : Box Lot) → k < runs → IsLotOf s t.each k runs parts (get_or last k x).value

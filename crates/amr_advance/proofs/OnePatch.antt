@@ -18,8 +18,7 @@ use Rattle.amr_patch.specs.Places.{grown, is_face_of}
 use Rattle.amr_patch.proofs.Lookups.{in_one, masses_in-at, same_default}
 use Rattle.amr_faces.specs.Faces.{IsInDomain, ShowsValues, flux_beside, in_reach}
 use Rattle.amr_faces.proofs.Shown.{flux_is, net_alike}
-use Rattle.amr_ghost.specs.GhostCells.{HasFrame}
-use Rattle.amr_ghost.specs.Frames.{AreInDomain, SameMasses}
+use Rattle.amr_ghost.specs.Frames.{AreInDomain, HasGhostValues, SameMasses}
 use Rattle.amr_ghost.proofs.Reach.{own_value}
 use Rattle.amr_lots.specs.Lots.{IsStepped, LevelStepFits, MayStep}
 
@@ -42,7 +41,7 @@ module _ (p : Problem) (l : ℕ) (old : Masses) (ps : List Patch) (apart : ArePa
   mass_here c h = masses_in-at ps c k r apart (record { inside = lt; holds_it = there c h }) ∙ ap Some (sym (same c (there c h r)))
 
   -- where its frame is filled, it shows the level's values
-  module _ (frame : HasFrame p l (masses_in ps) old q) where
+  module _ (frame : HasGhostValues p l (masses_in ps) old q) where
     pub frame_shows : ShowsValues p l (masses_in ps) old q
     frame_shows = record { at = λ c reach. by_box c (holds (box q) c) refl reach }
       where
@@ -53,7 +52,7 @@ module _ (p : Problem) (l : ℕ) (old : Masses) (ps : List Patch) (apart : ArePa
 
         by_box : (c : Cell) (t : Bool) → holds (box q) c ≡ t → IsTrue (in_reach (box q) c) → value_in q c ≡ value_at p l (masses_in ps) old c
         by_box c true held reach = same c (there c held r) ∙ sym (own_value p l old ps k r c apart inside lt (there c held))
-        by_box c false held reach = (frame.at c (ghost_of (holds (grown (box q)) c) (holds (box q) c) (within (box q).lo.x (box q).hi.x c.x || within (box q).lo.y (box q).hi.y c.y) held reach)).valued
+        by_box c false held reach = frame c (ghost_of (holds (grown (box q)) c) (holds (box q) c) (within (box q).lo.x (box q).hi.x c.x || within (box q).lo.y (box q).hi.y c.y) held reach)
 
   module _ (shows : ShowsValues p l (masses_in ps) old q) where
     pub plain_at : (f : Face) → is_face_of (box q) f ≡ true → flux_beside p l q f ≡ e f

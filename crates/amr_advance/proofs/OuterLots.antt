@@ -152,13 +152,12 @@ serves_run s t h k x lt = by_case (is_one t) h.made
         let zero_is : 0 ≡ k = (let n = one.one in omega (arith, lt, n)) in
         subst (λ n. ServesRun s t.each n (length t.lots.items) h.parts (get_or t.lots.items n x).value.workspace) zero_is (subst (λ n. ServesRun s t.each 0 n h.parts (get_or t.lots.items 0 x).value.workspace) (sym one.one) (one.lot x).serves)
 
-module _ (p : Problem) (l : ℕ) (old : Masses) (ps : List Patch) (cells : List Cell) (next : Option Level) (t : Lots) (may : MayStepLevel (around p l ps cells next) old) (lots : AreLots (around p l ps cells next) t) where
-  fills : (k : ℕ) (x : Box Lot) → k < length t.lots.items → CanFill p l (run t.each k ps) (get_or t.lots.items k x).value.workspace
+module _ (s : Around) (old : Masses) (t : Lots) (may : MayStepLevel s old) (lots : AreLots s t) where
+  fills : (k : ℕ) (x : Box Lot) → k < length t.lots.items → CanFill s.problem s.level (run t.each k s.patches) (get_or t.lots.items k x).value.workspace
   fills k x lt =
-      let level = in_step p l old ps cells next t may lots in
-      can_fill level k lt (get_or t.lots.items k x).value.workspace (serves_run (around p l ps cells next) t level.lots k x lt) (run t.each k ps) refl
+      can_fill (in_step s old t may lots) k lt (get_or t.lots.items k x).value.workspace (serves_run s t lots k x lt) (run t.each k s.patches) refl
 
-  pub all_spans : All (λ (x : Box Lot). All (IsOuterSpan (domain p l)) x.value.workspace.outer.spans.items) t.lots.items
+  pub all_spans : All (λ (x : Box Lot). All (IsOuterSpan (domain s.problem s.level)) x.value.workspace.outer.spans.items) t.lots.items
   all_spans k x lt = (fills k x lt).spans
 
   pub all_places : All (λ (x : Box Lot). HasOuterPlaces x.value.workspace.outer) t.lots.items

@@ -41,7 +41,7 @@ use Rattle.amr_advance.proofs.Beside.{may_be_run}
 use Rattle.amr_advance.proofs.Delivered.{delivered_to, sent_from}
 use Rattle.amr_advance.proofs.FinePlan.{are_planned, fine_plan}
 use Rattle.amr_advance.proofs.InDomain.{all_lie}
-use Rattle.amr_advance.proofs.InLots.{IsInStep, totals_small}
+use Rattle.amr_advance.proofs.InLots.{IsInStep, own_inside, totals_small}
 use Rattle.amr_advance.proofs.LentEdges.{AreEmpty, as_many}
 use Rattle.amr_advance.proofs.LotsAgain.{lots_again, several_again}
 use Rattle.amr_advance.proofs.LotsHanded.{AreDelivered, AreRunLots, HaveLists, HaveNoEdges, first_empty, first_lots, handed_empty, lent_lists, lent_runs, now_handed, still_carried}
@@ -71,7 +71,6 @@ pub record AreInPlaceOf (t u : Lots) (last : List (Box Lot)) : Type 0 where
   pub lots : u.lots.items ≡ last
 
 module _ {s : Around} {old : Masses} {t : Lots} (level : IsInStep s old t) (one : is_one t ≡ false) (ready : All (λ (x : Box Lot). HasValuesOrLevel s.problem s.level old x.value.workspace.outer) t.lots.items) where
-
   abbrev runs : ℕ
   runs = length t.lots.items
 
@@ -117,10 +116,10 @@ module _ {s : Around} {old : Masses} {t : Lots} (level : IsInStep s old t) (one 
     pub may_run : (b : StepBasis) (coarse : Option Held) → IsBasisOf s.problem s.whole coarse b → old_masses coarse ≡ old → (ws : List Work) → ArePieces b s.level Step xs ws → MayBeRun s.problem t.shape ws
     may_run b coarse of_b coarser ws raw =
         may_be_run level several d lists b coarse of_b coarser ws raw (patch_plan s t.each (plain_size s.problem s.level (masses_in s.whole) old)) (fine_plan s old t.each fine_is)
-        (are_planned s old t.each level.shallow level.once (all_lie s.problem s.level s.patches level.inside) fine_is)
+        (are_planned s old t.each level.may.level level.may.once (all_lie s.problem s.level s.patches (own_inside level)) fine_is)
       where
         fine_is : IsPlan (patch_plan s t.each (plain_size s.problem s.level (masses_in s.whole) old))
-        fine_is = several.plan (plain_size s.problem s.level (masses_in s.whole) old) level.fits.fluxes
+        fine_is = several.plan (plain_size s.problem s.level (masses_in s.whole) old) level.may.fits.fluxes
 
     -- ---- whatever comes of it, they are as many, with as many patches and lists
 
@@ -223,7 +222,7 @@ module _ {s : Around} {old : Masses} {t : Lots} (level : IsInStep s old t) (one 
                   are word lt =
                       let there : word < t.shape.words = (let a = place.totals in let b' = several.totals in omega (arith, lt, ap length totals, a, b')) in
                       done.totals word there
-                      ∙ plan_total level several d basis coarse of_b coarser done.raw done.are (patch_plan s t.each (plain_size s.problem s.level (masses_in s.whole) old)) (fine_plan s old t.each (several.plan (plain_size s.problem s.level (masses_in s.whole) old) level.fits.fluxes)) word
+                      ∙ plan_total level several d basis coarse of_b coarser done.raw done.are (patch_plan s t.each (plain_size s.problem s.level (masses_in s.whole) old)) (fine_plan s old t.each (several.plan (plain_size s.problem s.level (masses_in s.whole) old) level.may.fits.fluxes)) word
 
               kept : AreLots s (record t { packed = u.packed; valued = u.valued; lots = u.lots; totals = u.totals })
               kept = lots_last last u.lots u.totals u.packed u.valued place.lots place.totals

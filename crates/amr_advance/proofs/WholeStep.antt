@@ -38,7 +38,7 @@ use Rattle.amr_advance.specs.declared.lots.Lots.{Lots}
 use Rattle.amr_advance.specs.Lots.{AreLots, AreMade, CarryMasses, IsOneLot, IsWholeLot, first_totals, is_one, totals_by, ServesRun}
 use Rattle.amr_advance.specs.Registers.{AreEdgesFor}
 use Rattle.amr_advance.specs.Steps.{AreTotalsOf, HaveStepped, LotsMadeStep, AreFound}
-use Rattle.amr_advance.proofs.InLots.{IsInStep, totals_small, adds, all_inside, all_may, all_owned, all_room, all_show, fs_boxes, fs_count, run_flows, steps, totals_are}
+use Rattle.amr_advance.proofs.InLots.{IsInStep, totals_small, adds, all_inside, all_may, all_owned, all_room, all_show, fs_boxes, fs_count, own_inside, run_flows, steps, totals_are}
 use Rattle.amr_advance.proofs.LotsAgain.{lots_again}
 use Rattle.amr_flows.specs.Laws.{plain_size}
 use Rattle.amr_flows.specs.Words.{level_total}
@@ -55,7 +55,6 @@ use Rattle.amr_advance.proofs.Served.{KeepsPlan, still_whole}
 -- A level that one lot is all of: the lot's workspace makes its step.
 
 module _ {s : Around} {old : Masses} {t : Lots} (level : IsInStep s old t) (one : IsOneLot s level.lots.parts t) (x0 : Box Lot) where
-
   abbrev e : Fluxes
   e = flux_at s.problem s.level (masses_in s.whole) old
 
@@ -158,7 +157,7 @@ module _ {s : Around} {old : Masses} {t : Lots} (level : IsInStep s old t) (one 
     -- so it may make the step of the level
     pub can_step : {es : List (Vec EdgeCell)} → AreEdgesFor (map box s.patches) (lists_of es) → CanStep s.problem s.level s.patches es x
     can_step {es = es} fit = record {
-      inside = all_lie s.problem s.level s.patches level.inside;
+      inside = all_lie s.problem s.level s.patches (own_inside level);
       fill = can_fill level 0 there x serves s.patches (sym is_whole);
       lists = λ some. all_in t.each s.patches es fit some;
       flows = subst (HasFlowsIn x.flows x.sides.items) is_whole of.serves.flows;

@@ -1,5 +1,5 @@
 -- Some of a level's patches.
-use Rattle.std.proofs.Common.{◌≡◌, ℕ, suc, ◌<◌, Bool, true, false, ◌||◌, List, [], ◌∷◌, length, get_or, IsTrue, refl, sym, ap, ◌∙◌, absurd, arith}
+use Rattle.std.proofs.Common.{◌≡◌, ℕ, suc, ◌<◌, Bool, true, false, ◌||◌, List, [], ◌∷◌, length, get_or, IsTrue, refl, sym, ap, ◌∙◌, zero, arith}
 use Rattle.std.specs.List.{All, Contains}
 use Rattle.std.specs.declared.option.Option.TheVariants.{Some}
 use Rattle.amr_box.specs.declared.Cell.{Cell}
@@ -16,7 +16,7 @@ all_among ps = λ k q lt. (k, lt, same ps k q lt)
   where
     same : (ps : List Patch) (k : ℕ) (q : Patch) → k < length ps → get_or ps k (get_or ps k q) ≡ get_or ps k q
     same [] k q lt = absurd (omega (arith, lt))
-    same (p ∷ ps) 0 q lt = refl
+    same (p ∷ ps) zero q lt = refl
     same (p ∷ ps) (suc k) q lt = same ps k q (omega (arith, lt))
 
 -- a patch of the level has the level's masses
@@ -30,11 +30,11 @@ in_whole whole [] among c h = absurd (no h)
   where
     no : {X : Type 0} → false ≡ true → X
     no e = cc
-in_whole whole (q ∷ ps) among c h = by_case (holds (box q) c) refl h
+in_whole whole (q ∷ ps) among c h = by_case (holds (box q) c) refl (in_whole whole ps (λ k d lt. among (suc k) d (omega (arith, lt))) c) h
   where
-    by_case : (t : Bool) → holds (box q) c ≡ t → IsTrue (t || in_patches ps c) → IsTrue (in_patches whole c)
-    by_case true held h = let there = among 0 q (omega arith) in in_one whole c there.0 (holder whole c there.0 q there.1 (sym there.2) held)
-    by_case false held h = in_whole whole ps (λ k d lt. among (suc k) d (omega (arith, lt))) c h
+    by_case : (t : Bool) → holds (box q) c ≡ t → (IsTrue (in_patches ps c) → IsTrue (in_patches whole c)) → IsTrue (t || in_patches ps c) → IsTrue (in_patches whole c)
+    by_case true held rest h = let there = among 0 q (omega arith) in in_one whole c there.0 (holder whole c there.0 q there.1 (sym there.2) held)
+    by_case false held rest h = rest h
 
 -- so they lie in the domain where all of the level does
 pub inside_among : (d : Domain) (whole ps : List Patch) → AreAmong whole ps → ((c : Cell) → IsTrue (in_patches whole c) → IsTrue (in_domain d c)) → (c : Cell) → IsTrue (in_patches ps c) → IsTrue (in_domain d c)

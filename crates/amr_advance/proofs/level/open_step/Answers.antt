@@ -26,8 +26,8 @@ use Rattle.amr_advance.proofs.level.open_step.Goals as goal
 
 -- ---- the stages of the step
 
-in_its_step : (g : given.Over) (c : After-exchange_runs g) → IsInStep c.args.given.problem.now c.args.given.level (old_masses (option_copied c.args.given.old)) c.args.patches.now c.args.given.cells.now (option_copied c.args.given.finer) c.args.lots.now
-in_its_step g c = in_step c.args.given.problem.now c.args.given.level (old_masses (option_copied c.args.given.old)) c.args.patches.now c.args.given.cells.now (option_copied c.args.given.finer) c.args.lots.now c.requires.step.level c.requires.lots.lots
+in_its_step : (g : given.Over) (c : After-exchange_runs g) → IsInStep (around_of c.args.given c.args.patches.now) (old_masses (option_copied c.args.given.old)) c.args.lots.now
+in_its_step g c = in_step (around_of c.args.given c.args.patches.now) (old_masses (option_copied c.args.given.old)) c.args.lots.now c.requires.step.level c.requires.lots.lots
 
 handed : (g : given.Over) (c : After-exchange_runs g) → AreHanded c.args.lots.now.each c.args.patches.now c.args.lots.now.lots.items (with_items c.args.lots.now.lots c.exchange_runs.new.lots).items
 handed g c =
@@ -82,7 +82,7 @@ handed_over g c =
 pub exchange_runs-requires : goal.exchange_runs-requires
 exchange_runs-requires g c = record {
   counts = subst (λ (ys : List (Box Lot)). (k : ℕ) (x : Box Lot) → k < length ys → length (get_or ys k x).value.patches.items ≡ length (run c.args.lots.now.each k c.args.patches.now)) (sym c.deref_mut.ensures.value)
-      (let level = in_step c.args.given.problem.now c.args.given.level (old_masses (option_copied c.args.given.old)) c.args.patches.now c.args.given.cells.now (option_copied c.args.given.finer) c.args.lots.now c.requires.step.level c.requires.lots.lots in
+      (let level = in_step (around_of c.args.given c.args.patches.now) (old_masses (option_copied c.args.given.old)) c.args.lots.now c.requires.step.level c.requires.lots.lots in
       first_counts level (several level c.requires.several c.requires.lots.values) c.requires.lots.values);
 }
 

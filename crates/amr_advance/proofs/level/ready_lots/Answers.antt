@@ -28,19 +28,19 @@ ready_outer-requires-clause-level c = c.requires.step.level.level
 pub ready_outer-requires-clause-spans : goal.ready_outer-requires-clause-spans
 ready_outer-requires-clause-spans c =
     subst (All (λ (x : Box Lot). All (IsOuterSpan (domain c.args.given.problem.now c.args.given.level)) x.value.workspace.outer.spans.items)) (sym c.deref_mut.ensures.value)
-    (all_spans c.args.given.problem.now c.args.given.level (old_masses (option_copied c.args.given.old)) c.args.patches.now c.args.given.cells.now (option_copied c.args.given.finer) c.args.lots.now c.requires.step.level c.requires.lots)
+    (all_spans (around_of c.args.given c.args.patches.now) (old_masses (option_copied c.args.given.old)) c.args.lots.now c.requires.step.level c.requires.lots)
 
 pub ready_outer-requires-clause-places : goal.ready_outer-requires-clause-places
 ready_outer-requires-clause-places c =
     subst (All (λ (x : Box Lot). HasOuterPlaces x.value.workspace.outer)) (sym c.deref_mut.ensures.value)
-    (all_places c.args.given.problem.now c.args.given.level (old_masses (option_copied c.args.given.old)) c.args.patches.now c.args.given.cells.now (option_copied c.args.given.finer) c.args.lots.now c.requires.step.level c.requires.lots)
+    (all_places (around_of c.args.given c.args.patches.now) (old_masses (option_copied c.args.given.old)) c.args.lots.now c.requires.step.level c.requires.lots)
 
 pub returns : goal.returns
 returns c =
     let p = c.args.given.problem.now in
     let l = c.args.given.level in
     let m = old_masses (option_copied c.args.given.old) in
-    let s = around p l c.args.patches.now c.args.given.cells.now (option_copied c.args.given.finer) in
+    let s = around_of c.args.given c.args.patches.now in
     let t = c.args.lots.now in
     let v = t.lots in
     let w = with_items v c.ready_outer.new.lots in

@@ -31,7 +31,7 @@ opened g c =
 -- as many pieces as lots
 count : (g : given.Over) (c : After-phase_of g) → length c.in-Ok.board.pieces ≡ length c.args.lots.now.lots.items
 count g c =
-    let level = in_step c.args.given.problem.now c.args.given.level (old_masses (option_copied c.args.given.old)) c.args.patches.now c.args.given.cells.now (option_copied c.args.given.finer) c.args.lots.now c.requires.step.level c.requires.lots.lots in
+    let level = in_step (around_of c.args.given c.args.patches.now) (old_masses (option_copied c.args.given.old)) c.args.lots.now c.requires.step.level c.requires.lots.lots in
     c.in-Ok.ensures.opened.2.are.count ∙ xs_count level c.requires.several c.requires.lots.values c.in-Ok.ensures.opened.1 c.requires.edges c.requires.lots.packed
 
 pub run_step-requires-clause-duty : goal.run_step-requires-clause-duty
@@ -48,7 +48,7 @@ run_step-requires-clause-few g c κs within =
 
 pub run_step-requires-clause-words : goal.run_step-requires-clause-words
 run_step-requires-clause-words g c κs within =
-    let level = in_step c.args.given.problem.now c.args.given.level (old_masses (option_copied c.args.given.old)) c.args.patches.now c.args.given.cells.now (option_copied c.args.given.finer) c.args.lots.now c.requires.step.level c.requires.lots.lots in
+    let level = in_step (around_of c.args.given c.args.patches.now) (old_masses (option_copied c.args.given.old)) c.args.lots.now c.requires.step.level c.requires.lots.lots in
     let rest = c.open_step.ensures.rest in
     (λ i. length (rest i).totals.items) ∙ (several level c.requires.several c.requires.lots.values).totals ∙ (λ i. (sym rest i).shape.words)
 
@@ -60,7 +60,7 @@ run_step-requires-clause-room g c κs within =
 pub run_step-requires-clause-crew : goal.run_step-requires-clause-crew
 run_step-requires-clause-crew g c κs within =
     let t = c.args.lots.now in
-    let level = in_step c.args.given.problem.now c.args.given.level (old_masses (option_copied c.args.given.old)) c.args.patches.now c.args.given.cells.now (option_copied c.args.given.finer) t c.requires.step.level c.requires.lots.lots in
+    let level = in_step (around_of c.args.given c.args.patches.now) (old_masses (option_copied c.args.given.old)) t c.requires.step.level c.requires.lots.lots in
     let few = few_runs t.each (length t.lots.items) (length c.args.patches.now) c.requires.lots.lots.some (several level c.requires.several c.requires.lots.values).tight in
     let n = count g (goal.at.run_step-requires-clause-crew g c).After-phase_of in
     let m = length c.in-Ok.board.pieces in

@@ -16,8 +16,8 @@ use Rattle.amr_advance.proofs.level.step_in_lots.Goals as goal
 
 -- ---- the stages of the step
 
-in_its_step : (g : given.Over) (c : After-run_in_lots-run g) → IsInStep c.args.given.problem.now c.args.given.level (old_masses (option_copied c.args.given.old)) c.args.patches.now c.args.given.cells.now (option_copied c.args.given.finer) c.args.lots.now
-in_its_step g c = in_step c.args.given.problem.now c.args.given.level (old_masses (option_copied c.args.given.old)) c.args.patches.now c.args.given.cells.now (option_copied c.args.given.finer) c.args.lots.now c.requires.step.level c.requires.lots.lots
+in_its_step : (g : given.Over) (c : After-run_in_lots-run g) → IsInStep (around_of c.args.given c.args.patches.now) (old_masses (option_copied c.args.given.old)) c.args.lots.now
+in_its_step g c = in_step (around_of c.args.given c.args.patches.now) (old_masses (option_copied c.args.given.old)) c.args.lots.now c.requires.step.level c.requires.lots.lots
 
 each_is : (g : given.Over) (c : After-run_in_lots-run g) → c.run_in_lots-run.new.lots.each ≡ c.args.lots.now.each
 each_is g c = λ i. (c.run_in_lots-run.ensures.rest i).each

@@ -9,8 +9,8 @@ use Rattle.amr_advance.proofs.level.step_whole.Given as given
 use Rattle.amr_advance.proofs.level.step_whole.Goals.{After-deref_mut, Start}
 use Rattle.amr_advance.proofs.level.step_whole.Goals as goal
 
-its_step : (g : given.Over) (c : Start g) → IsInStep c.args.given.problem.now c.args.given.level (old_masses (option_copied c.args.given.old)) c.args.patches.now c.args.given.cells.now (option_copied c.args.given.finer) c.args.lots.now
-its_step g c = in_step c.args.given.problem.now c.args.given.level (old_masses (option_copied c.args.given.old)) c.args.patches.now c.args.given.cells.now (option_copied c.args.given.finer) c.args.lots.now c.requires.level c.requires.lots.lots
+its_step : (g : given.Over) (c : Start g) → IsInStep (around_of c.args.given c.args.patches.now) (old_masses (option_copied c.args.given.old)) c.args.lots.now
+its_step g c = in_step (around_of c.args.given c.args.patches.now) (old_masses (option_copied c.args.given.old)) c.args.lots.now c.requires.level c.requires.lots.lots
 
 -- the lot that was lent is the first one
 same_lot : (g : given.Over) (c : After-deref_mut g) → c.deref_mut.result.now ≡ (get_or c.args.lots.now.lots.items 0 c.index_mut.result.now).value

@@ -67,17 +67,22 @@ step_patches-stepped-requires-clause-may g c κs within =
     let ps = c.deref_mut.result.now in
     let m = masses g (goal.at.step_patches-stepped-requires-clause-may g c).After-deref_mut in
     let all = c.deref_mut.ensures.value in
+    let whole : c.basis_of-basis.result.patches.value.items ≡ ps = c.basis_of-basis.ensures.patches ∙ sym all in
     record {
       step = record {
         level = record {
           level = c.requires.may.number;
-          apart = subst ArePatchesApart (sym all) c.take_patches-patches.ensures.apart;
-          inside = patches_inside p l (level_of c.args.level.now) ps c.requires.may.of_domain m;
-          fits = subst (λ (n : Masses). LevelStepFits p l n (old_masses old)) m c.requires.may.fits;
+          apart = subst ArePatchesApart (sym c.basis_of-basis.ensures.patches) c.take_patches-patches.ensures.apart;
+          inside = subst (AreInDomain (domain p l)) (sym whole) (patches_inside p l (level_of c.args.level.now) ps c.requires.may.of_domain m);
+          fits = subst (λ (n : Masses). LevelStepFits p l n (old_masses old)) (m ∙ ap masses_in (sym whole)) c.requires.may.fits;
+          worked_on = subst (λ (qs : List Patch). AreAmong qs ps) (sym whole) (all_among ps);
+          once = subst ArePatchesApart (sym all) c.take_patches-patches.ensures.apart;
+          framed = whole;
         };
-        basis = subst (λ (qs : List Patch). IsBasisOf p qs old c.basis_of-basis.result) (sym all) c.basis_of-basis.ensures;
+        basis = record { problem = c.basis_of-basis.ensures.problem; patches = refl; coarser = c.basis_of-basis.ensures.coarser };
         shared = c.requires.shared;
       };
+      unfilled = refl;
       order_of = subst (IsOrderOf c.order-order.result) (sym (all ∙ c.take_patches-patches.ensures.all)) c.order-order.ensures;
       cells = subst (λ (xs : List Cell). HasRegisterCells (around p l ps xs (option_copied c.args.finer))) (sym c.cells_of.ensures)
           (cells_serve p l (level_of c.args.level.now) old c.args.regs.now.coarser ps (option_copied c.args.finer) c.requires.may.coarser c.requires.may.of_domain (sym m));

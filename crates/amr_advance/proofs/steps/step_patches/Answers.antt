@@ -36,7 +36,7 @@ pub returns-clause-boxes : goal.returns-clause-boxes
 returns-clause-boxes g c = stepped_boxes _ _ c.run_level-run.new.patches c.in_ok-run.ensures.made.stepped
 
 pub returns-clause-apart : goal.returns-clause-apart
-returns-clause-apart g c = stepped_apart _ _ c.run_level-run.new.patches c.in_ok-run.ensures.made.stepped c.requires.may.step.level.apart
+returns-clause-apart g c = stepped_apart _ _ c.run_level-run.new.patches c.in_ok-run.ensures.made.stepped c.requires.may.step.level.once
 
 -- what the step leaves
 pub returns-clause-stepped : goal.returns-clause-stepped
@@ -46,8 +46,10 @@ returns-clause-stepped g c =
     let m = masses_in c.args.patches.now in
     let old = old_masses (option_copied c.args.given.old) in
     let s = around p l c.args.patches.now c.args.given.cells.now (option_copied c.args.given.finer) in
-    let h = c.in_ok-run.ensures.made in
     let k = c.run_level-run.new.layout in
+    let is = around_is c.args.given c.args.order c.args.patches.now c.args.register.now c.requires.may in
+    let all = whole_is c.args.given c.args.order c.args.patches.now c.args.register.now c.requires.may in
+    let h = subst (λ (a : Around). HasMadeStep a old c.run_level-run.new.patches (lists_of c.deref_mut.result.now) (lists_of c.run_level-run.new.edges) k) is c.in_ok-run.ensures.made in
     let count = kept_count s k h.layout.laid_out in
     let ys = lists_of c.run_level-run.new.edges in
     let lists : lists_of c.deref_mut.result.now ≡ edges_of c.args.register.now = ap lists_of c.deref_mut.ensures.value ∙ c.take_edges-edges.ensures.lists in
@@ -57,7 +59,7 @@ returns-clause-stepped g c =
       count = count;
       few = omega (arith, h.layout.laid_out.few, count);
       small = h.totals.small;
-      totals = totals_of p l m old c.args.patches.now c.args.given.cells.now (option_copied c.args.given.finer) (totals_kept k) c.requires.may.step.level.inside c.requires.may.step.level.apart refl h.totals.are;
+      totals = totals_of p l m old c.args.patches.now c.args.given.cells.now (option_copied c.args.given.finer) (totals_kept k) (subst (AreInDomain (domain p l)) all c.requires.may.step.level.inside) c.requires.may.step.level.once refl h.totals.are;
       there = first_there s k h.layout.laid_out;
       register = nets_taken p l m ys old (option_copied c.args.given.finer) c.args.register.now c.put_edges.new.register c.take_nets.new.register c.requires.may.register
           (came_back c.args.register.now c.take_edges-edges.new.register c.put_edges.new.register c.take_edges-edges.result c.deref_mut.result.now c.run_level-run.new.edges c.take_edges-edges.ensures.lists c.deref_mut.ensures.value c.deref_mut.ensures.len c.take_edges-edges.ensures.rest h.edges.same c.put_edges.ensures)
@@ -66,8 +68,22 @@ returns-clause-stepped g c =
 
 pub returns-clause-kept : goal.returns-clause-kept
 returns-clause-kept g c =
-    let h = c.in_ok-run.ensures.made.layout in
+    let h =
+    subst (λ (a : Around). ServesLevel a (masses_in c.run_level-run.new.patches) (old_masses (option_copied c.args.given.old)) c.run_level-run.new.layout)
+    (around_is c.args.given c.args.order c.args.patches.now c.args.register.now c.requires.may) c.in_ok-run.ensures.made.layout in
     record {
-      layout = record { made_for = around c.args.given.problem.now c.args.given.level c.args.patches.now c.args.given.cells.now (option_copied c.args.given.finer); of_problem = refl; laid_out = h.laid_out };
+      layout = record { made_for = all_around c.args.given c.args.patches.now; of_problem = refl; unfilled = refl; all = refl; laid_out = h.laid_out };
       masses = h.masses;
     }
+
+pub returns-in_err-run-clause-apart : goal.returns-in_err-run-clause-apart
+returns-in_err-run-clause-apart g c = subst ArePatchesApart (sym c.in_err-run.ensures.same) c.requires.may.step.level.once
+
+pub layout_for-layout-requires-clause-inside : goal.layout_for-layout-requires-clause-inside
+layout_for-layout-requires-clause-inside g c κs within =
+    subst (AreInDomain (domain c.args.given.problem.now c.args.given.level)) (whole_is c.args.given c.args.order c.args.patches.now c.args.register.now c.requires.may) c.requires.may.step.level.inside
+
+pub run_level-run-requires-clause-layout : goal.run_level-run-requires-clause-layout
+run_level-run-requires-clause-layout g c κs within =
+    subst (λ (a : Around). ServesLevel a (masses_in c.args.patches.now) (old_masses (option_copied c.args.given.old)) c.in_ok-layout.layout)
+    (sym (around_is c.args.given c.args.order c.args.patches.now c.args.register.now c.requires.may)) c.in_ok-layout.ensures.layout
