@@ -1,15 +1,12 @@
 -- A step of all patches of a level.
-use Rattle.std.proofs.Common.{◌≡◌, List, subst}
-use Rattle.std.specs.declared.option.Option.{Option}
-use Rattle.amr_patch.specs.declared.lookup.Order.{Order}
+use Rattle.std.proofs.Common.{◌≡◌, false, List, subst}
 use Rattle.amr_patch.specs.declared.patches.Patch.{Patch}
-use Rattle.amr_register.specs.declared.register.Register.{Register}
 use Rattle.amr_advance.specs.declared.level.StepInput.{StepInput}
-use Rattle.amr_advance.specs.Steps.{AreFramed, MayStepPatches, all_around, around_of, coarser_masses, whole_of}
+use Rattle.amr_advance.specs.Steps.{AreFramed, MayMakeStep, all_around, around_of, coarser_masses, whole_of}
 
-module _ (g : StepInput) (order : Order) (qs : List Patch) (r : Option Register) (may : MayStepPatches g order qs r) where
+module _ (g : StepInput) (qs : List Patch) (step : MayMakeStep g qs) (unfilled : g.filled ≡ false) where
   pub whole_is : whole_of g ≡ qs
-  whole_is = subst (λ b. AreFramed b (around_of g qs) (coarser_masses g)) may.unfilled may.step.level.framed
+  whole_is = subst (λ b. AreFramed b (around_of g qs) (coarser_masses g)) unfilled step.level.framed
 
   pub around_is : around_of g qs ≡ all_around g qs
-  around_is = λ i. record { problem = g.problem.now; level = g.level; patches = qs; whole = whole_is i; filled = may.unfilled i; cells = g.cells.now; finer = (all_around g qs).finer }
+  around_is = λ i. record { problem = g.problem.now; level = g.level; patches = qs; whole = whole_is i; filled = unfilled i; cells = g.cells.now; finer = (all_around g qs).finer }

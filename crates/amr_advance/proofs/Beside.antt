@@ -62,6 +62,7 @@ use Rattle.amr_advance.proofs.InLots.{IsInStep, adds, all_owned, all_show, own_i
 use Rattle.amr_advance.proofs.LotsHanded.{AreDelivered, HaveLists}
 use Rattle.amr_advance.proofs.Merged.{merged_face}
 use Rattle.amr_advance.proofs.RunLists.{same_run}
+use Rattle.amr_layout.proofs.Among.{mass_among}
 
 -- Flows to words of a level, and the same flows to places in a lot's list of words.
 

@@ -1,16 +1,16 @@
 -- The workspace of a run of a level's patches, which is handed them and messages from all runs: their frames are filled by it, and then they
 -- show the level's values, and may make their step.
-use Rattle.std.proofs.Common.{◌≡◌, ◌∙◌, ℕ, suc, ◌+◌, ◌*◌, ◌^◌, ◌<◌, ◌≤◌, true, List, [], ◌∷◌, length, get_or, map, refl, sym, ap, subst, arith}
+use Rattle.std.proofs.Common.{◌≡◌, ◌∙◌, ℕ, suc, ◌+◌, ◌*◌, ◌^◌, ◌<◌, ◌≤◌, true, List, [], ◌∷◌, length, get_or, map, refl, sym, ap, subst, arith, Bool, false}
 use Rattle.std.specs.Prelude.{◌==◌, if◌then◌else◌, unsigned_abs}
 use Rattle.std.specs.declared.option.Option.{Option}
-use Rattle.std.specs.List.{All, AllZip}
+use Rattle.std.specs.List.{All, AllZip, Contains}
 use Rattle.std.proofs.lemmas.List.{get_or-map, length-map}
-use Rattle.std.proofs.lemmas.List.Elements.{AllZip-get_or, length_all_zip}
+use Rattle.std.proofs.lemmas.List.Elements.{AllZip-get_or, length_all_zip, All-same}
 use Rattle.amr_box.specs.declared.Cell.{Cell}
 use Rattle.amr_box.specs.declared.Face.{Face}
 use Rattle.amr_box.specs.Cells.{Extent, width}
 use Rattle.amr_def.specs.declared.problem.Problem.{Problem}
-use Rattle.amr_def.specs.Domain.{domain}
+use Rattle.amr_def.specs.Domain.{domain, Domain}
 use Rattle.amr_def.specs.State.{Masses}
 use Rattle.amr_def.specs.Value.{value_at}
 use Rattle.amr_def.specs.Flux.{Fluxes, flux_at}
@@ -25,7 +25,7 @@ use Rattle.amr_flows.specs.Words.{level_total}
 use Rattle.amr_flows.proofs.EdgeFlows.{flows_on_edges}
 use Rattle.amr_phase.specs.Plans.{total}
 use Rattle.amr_ghost.specs.GhostCells.{HasFrame, KeepsCells}
-use Rattle.amr_ghost.specs.Frames.{AreInDomain, is_of_level}
+use Rattle.amr_ghost.specs.Frames.{AreInDomain, is_of_level, HasGhostValues}
 use Rattle.amr_ghost.specs.Messages.{AreMessagesTo, HasFilled}
 use Rattle.amr_ghost.specs.Outer.{AreOuterFor}
 use Rattle.amr_ghost.specs.declared.outer.OuterGhosts.{OuterGhosts}
@@ -44,10 +44,15 @@ use Rattle.amr_lots.specs.Runs.{run}
 use Rattle.amr_lots.proofs.LotTotals.{lot_total_is}
 use Rattle.amr_lots.proofs.Runs.{run_at, run_place}
 use Rattle.amr_advance.specs.declared.lots.Lots.{Lots}
-use Rattle.amr_advance.specs.Lots.{AreLots, ServesRun}
-use Rattle.amr_advance.specs.Steps.{MayStepLevel}
+use Rattle.amr_advance.specs.Lots.{AreLots, ServesRun, PlansUnlessFilled}
+use Rattle.amr_advance.specs.Steps.{MayStepLevel, AreFramed}
 use Rattle.amr_advance.proofs.RunLists.{run_is, total_run_most}
 use Rattle.amr_advance.proofs.OnePatch as OnePatch
+use Rattle.amr_ghost.specs.Plans.{IsSpan, PlansFrames}
+use Rattle.amr_ghost.specs.declared.plan.FramePlan.{FramePlan}
+use Rattle.amr_ghost.specs.declared.sources.GhostSpan.{GhostSpan}
+use Rattle.amr_advance.proofs.FilledFrames.{still_filled}
+use Rattle.amr_layout.proofs.Among.{inside_among}
 
 pub same_words : (f g : Face → ℕ) (word : ℕ) (xs : List FlowTo) → All (λ (x : FlowTo). f x.face ≡ g x.face) xs → word_total f word xs ≡ word_total g word xs
 same_words f g word [] h = refl

@@ -44,7 +44,7 @@ use Rattle.amr_advance.specs.declared.kept_layout.KeptLayout.{KeptLayout}
 use Rattle.amr_advance.specs.declared.kept_layout.Stale.{Stale}
 use Rattle.amr_advance.specs.declared.lots.Lots.{Lots}
 use Rattle.amr_advance.specs.KeptLayouts.{Forgets, IsKeptLayout, IsKeptOf, IsLaidOut, StaysKept}
-use Rattle.amr_advance.specs.Lots.{AreLots, AreLotsFor, AreMade, CarryMasses, HasLayoutsOf, HasOthersOf, HasValues, HasWordsOf, IsLotOf, IsWholeLot, PutsLieOn, ServesRun, StillServe, is_one}
+use Rattle.amr_advance.specs.Lots.{AreLots, AreLotsFor, AreMade, CarryMasses, HasLayoutsOf, HasOthersOf, HasValues, HasWordsOf, IsLotOf, IsWholeLot, PutsLieOn, ServesRun, StillServe, is_one, PlansUnlessFilled}
 use Rattle.amr_advance.proofs.LotsAgain.{lots_again, several_again}
 use Rattle.amr_faces.specs.Faces.{masked_faces}
 use Rattle.amr_advance.proofs.RunLists.{run_boxes}

@@ -1,6 +1,6 @@
 //! One step of a level on a board, by a lone worker, and how far it got with each lot: here each patch is a lot of its own.
 
-ghost use Rattle.std.specs.Prelude.{◌≡◌, ◌<◌, ◌∷◌, [], ℕ, IfOk, List};
+ghost use Rattle.std.specs.Prelude.{◌≡◌, ◌<◌, ◌∷◌, [], ℕ, false, IfOk, List};
 ghost use Rattle.std.specs.Global.{Box as boxed};
 ghost use Rattle.amr_patch.specs.Levels.{level_of};
 ghost use Rattle.amr_patch.specs.Orders.{IsOrderOf};
@@ -11,7 +11,7 @@ ghost use Rattle.amr_lots.specs.declared.lot.Duty.TheVariants.{Step};
 ghost use Rattle.amr_lots.specs.declared.lot.Lot.{Lot as lot};
 ghost use Rattle.amr_lots.specs.declared.lot.Work.{Work as piece};
 ghost use Rattle.amr_advance.specs.Phases.{IsOpened, IsPieceOf};
-ghost use Rattle.amr_advance.specs.Steps.{MayMakeStep, around_of};
+ghost use Rattle.amr_advance.specs.Steps.{MayMakeStep, all_around};
 ghost use Rattle.amr_cycle.specs.Cycles.{HasStepToCome};
 
 use crate::cycle::masses_after_a_step;
@@ -54,7 +54,7 @@ fn places_of(
     requires some { 0 < each }
     requires step { MayMakeStep given patches.now }
     requires order { IsOrderOf order patches.now }
-    requires cells { HasRegisterCells (around_of given patches.now) }
+    requires cells { HasRegisterCells (all_around given patches.now) }
 {
     let starts = starts_of(given.alloc, patches)?;
     let level = Surroundings {
@@ -78,7 +78,8 @@ fn open_patches<R: Threads + Wait + Sync>(
 ) -> Result<(Board<Work>, Seat<Work>, [u32; 3]), NoMemory>
     requires step { MayMakeStep given patches.old }
     requires order { IsOrderOf order patches.old }
-    requires cells { HasRegisterCells (around_of given patches.old) }
+    requires unfilled { given.filled ≡ false }
+    requires cells { HasRegisterCells (all_around given patches.old) }
     ensures { IfOk result (λ r. (shape : form) × (xs : List (boxed lot))
         × IsOpened given.entry.basis.now given.entry.level Step given.entry.problem.now shape xs r.0 r.1) }
 {
@@ -113,6 +114,7 @@ fn first_step<'a>(alloc: Global, p: &'a Problem, basis: &'a StepBasis) -> StepIn
     ensures shared { result.shared ≡ None }
     ensures finer { result.finer ≡ None }
     ensures cells { result.cells.now ≡ [] }
+    ensures unfilled { result.filled ≡ false }
     ensures basis { result.basis.now ≡ basis.now }
 {
     StepInput {
@@ -123,6 +125,7 @@ fn first_step<'a>(alloc: Global, p: &'a Problem, basis: &'a StepBasis) -> StepIn
         shared: None,
         finer: None,
         cells: &[],
+        filled: false,
         basis,
     }
 }

@@ -23,6 +23,7 @@ use Rattle.amr_advance.proofs.SteppedLots.{may_run, several, xs_count}
 use Rattle.amr_advance.proofs.level.open_step.Given as given
 use Rattle.amr_advance.proofs.level.open_step.Goals.{After-exchange_lists, After-exchange_messages, After-exchange_runs, After-pack_lots}
 use Rattle.amr_advance.proofs.level.open_step.Goals as goal
+use Rattle.amr_advance.specs.Steps.{around_of}
 
 -- ---- the stages of the step
 

@@ -7,13 +7,13 @@ use Rattle.std.proofs.lemmas.List.Elements.{length_all_zip}
 use Rattle.amr_def.specs.Domain.{domain}
 use Rattle.amr_ghost.specs.Frames.{old_masses}
 use Rattle.amr_ghost.specs.Outer.{HasOuterPlaces, IsOuterSpan}
-use Rattle.amr_layout.specs.Surroundings.{around}
 use Rattle.amr_lots.specs.declared.lot.Lot.{Lot}
 use Rattle.amr_patch.specs.Patches.{masses_in}
 use Rattle.amr_advance.specs.Outer.{IsReadied}
 use Rattle.amr_advance.proofs.LotsHanded.{when_lent}
 use Rattle.amr_advance.proofs.OuterLots.{all_places, all_readied, all_spans, carry_kept, lots_kept, readied_values, values_or}
 use Rattle.amr_advance.proofs.level.ready_lots.Goals as goal
+use Rattle.amr_advance.specs.Steps.{around_of}
 
 pub returns-then-lots : goal.returns-then-lots
 returns-then-lots c = record {

@@ -16,6 +16,7 @@ use Rattle.amr_advance.proofs.SteppedLots.{several, xs_count}
 use Rattle.amr_advance.proofs.level.run_in_lots.Given as given
 use Rattle.amr_advance.proofs.level.run_in_lots.Goals.{After-phase_of}
 use Rattle.amr_advance.proofs.level.run_in_lots.Goals as goal
+use Rattle.amr_advance.specs.Steps.{around_of}
 
 -- the board is that of the phase
 opened : (g : given.Over) (c : After-phase_of g) → IsOpened c.phase_of.result.basis.now c.phase_of.result.level Step c.phase_of.result.problem.now c.open_step.new.lots.shape c.in-Ok.ensures.opened.0 c.in-Ok.board c.in-Ok.seat

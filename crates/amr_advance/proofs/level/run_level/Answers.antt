@@ -1,9 +1,9 @@
 use Rattle.std.specs.Option.{option_copied}
 use Rattle.amr_ghost.specs.Frames.{old_masses}
-use Rattle.amr_layout.specs.Surroundings.{around}
 use Rattle.amr_register.specs.EdgeCells.{lists_of}
 use Rattle.amr_advance.proofs.Settled.{has_made}
 use Rattle.amr_advance.proofs.level.run_level.Goals as goal
+use Rattle.amr_advance.specs.Steps.{around_of}
 
 pub returns-clause-made : goal.returns-clause-made
 returns-clause-made g c =

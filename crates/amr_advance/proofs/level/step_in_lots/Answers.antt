@@ -13,6 +13,7 @@ use Rattle.amr_advance.proofs.SteppedLots.{edges_same, lists_back, now_made, pat
 use Rattle.amr_advance.proofs.level.step_in_lots.Given as given
 use Rattle.amr_advance.proofs.level.step_in_lots.Goals.{After-exchange_lists, After-exchange_runs, After-run_in_lots-run}
 use Rattle.amr_advance.proofs.level.step_in_lots.Goals as goal
+use Rattle.amr_advance.specs.Steps.{around_of}
 
 -- ---- the stages of the step
 

@@ -8,6 +8,7 @@ use Rattle.amr_advance.proofs.WholeStep.{have_made, may_step, some}
 use Rattle.amr_advance.proofs.level.step_whole.Given as given
 use Rattle.amr_advance.proofs.level.step_whole.Goals.{After-deref_mut, Start}
 use Rattle.amr_advance.proofs.level.step_whole.Goals as goal
+use Rattle.amr_advance.specs.Steps.{around_of}
 
 its_step : (g : given.Over) (c : Start g) → IsInStep (around_of c.args.given c.args.patches.now) (old_masses (option_copied c.args.given.old)) c.args.lots.now
 its_step g c = in_step (around_of c.args.given c.args.patches.now) (old_masses (option_copied c.args.given.old)) c.args.lots.now c.requires.level c.requires.lots.lots

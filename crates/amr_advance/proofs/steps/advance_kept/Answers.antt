@@ -6,10 +6,10 @@ use Rattle.std.proofs.lemmas.List.{length-map, with_items_is}
 use Rattle.amr_box.specs.declared.Cell.{Cell}
 use Rattle.amr_def.specs.Flux.{flux_at, updated}
 use Rattle.amr_def.specs.State.{Masses}
-use Rattle.amr_ghost.specs.Frames.{old_masses}
+use Rattle.amr_ghost.specs.Frames.{old_masses, AreInDomain}
 use Rattle.amr_ghost.proofs.Inside.{patches_inside}
 use Rattle.amr_layout.specs.Adds.{HasRegisterCells}
-use Rattle.amr_layout.specs.Surroundings.{around, finer_masses}
+use Rattle.amr_layout.specs.Surroundings.{around, finer_masses, AreAmong}
 use Rattle.amr_lots.specs.Lots.{LevelStepFits}
 use Rattle.amr_patch.specs.declared.patches.Patch.{Patch}
 use Rattle.amr_patch.specs.Levels.{level_of}
@@ -27,6 +27,8 @@ use Rattle.amr_advance.proofs.Advancing.{both_changed, cells_serve, inflow_is, o
 use Rattle.amr_advance.proofs.steps.advance_kept.Given as given
 use Rattle.amr_advance.proofs.steps.advance_kept.Goals.{After-deref_mut, After-step_patches-stepped, In_ok-stepped}
 use Rattle.amr_advance.proofs.steps.advance_kept.Goals as goal
+use Rattle.amr_layout.proofs.Among.{all_among}
+use Rattle.amr_def.specs.Domain.{domain}
 
 -- ---- the patches that were taken, and those that are put
 

@@ -1,16 +1,19 @@
 use Rattle.std.proofs.Common.{◌≡◌, ◌∙◌, List, map, refl, sym, ap, subst, arith}
 use Rattle.std.specs.Option.{option_copied}
-use Rattle.amr_ghost.specs.Frames.{old_masses}
-use Rattle.amr_layout.specs.Surroundings.{around}
-use Rattle.amr_patch.specs.Patches.{box, masses_in}
+use Rattle.amr_ghost.specs.Frames.{old_masses, AreInDomain}
+use Rattle.amr_layout.specs.Surroundings.{around, Around}
+use Rattle.amr_patch.specs.Patches.{box, masses_in, ArePatchesApart}
 use Rattle.amr_register.specs.declared.edges.EdgeCell.{EdgeCell}
 use Rattle.amr_register.specs.EdgeCells.{lists_of}
 use Rattle.amr_advance.specs.Registers.{AreEdgesFor, AreNetsOf, edges_of}
-use Rattle.amr_advance.specs.KeptLayouts.{totals_kept}
+use Rattle.amr_advance.specs.KeptLayouts.{totals_kept, ServesLevel}
 use Rattle.amr_advance.proofs.KeptTotals.{first_there, kept_count}
 use Rattle.amr_advance.proofs.Parts.{back_unchanged, came_back, edges_for, may_take, nets_taken, on_err, totals_of, unchanged}
 use Rattle.amr_advance.proofs.Stepped.{stepped_apart, stepped_boxes, stepped_masses}
 use Rattle.amr_advance.proofs.steps.step_patches.Goals as goal
+use Rattle.amr_advance.specs.Steps.{all_around, HasMadeStep}
+use Rattle.amr_advance.proofs.AllPatches.{around_is, whole_is}
+use Rattle.amr_def.specs.Domain.{domain}
 
 pub returns-in_err-layout-clause-same_register : goal.returns-in_err-layout-clause-same_register
 returns-in_err-layout-clause-same_register g c = on_err c.from_residual.result (unchanged c.args.register.now)
@@ -47,8 +50,8 @@ returns-clause-stepped g c =
     let old = old_masses (option_copied c.args.given.old) in
     let s = around p l c.args.patches.now c.args.given.cells.now (option_copied c.args.given.finer) in
     let k = c.run_level-run.new.layout in
-    let is = around_is c.args.given c.args.order c.args.patches.now c.args.register.now c.requires.may in
-    let all = whole_is c.args.given c.args.order c.args.patches.now c.args.register.now c.requires.may in
+    let is = around_is c.args.given c.args.patches.now c.requires.may.step c.requires.may.unfilled in
+    let all = whole_is c.args.given c.args.patches.now c.requires.may.step c.requires.may.unfilled in
     let h = subst (λ (a : Around). HasMadeStep a old c.run_level-run.new.patches (lists_of c.deref_mut.result.now) (lists_of c.run_level-run.new.edges) k) is c.in_ok-run.ensures.made in
     let count = kept_count s k h.layout.laid_out in
     let ys = lists_of c.run_level-run.new.edges in
@@ -70,7 +73,7 @@ pub returns-clause-kept : goal.returns-clause-kept
 returns-clause-kept g c =
     let h =
     subst (λ (a : Around). ServesLevel a (masses_in c.run_level-run.new.patches) (old_masses (option_copied c.args.given.old)) c.run_level-run.new.layout)
-    (around_is c.args.given c.args.order c.args.patches.now c.args.register.now c.requires.may) c.in_ok-run.ensures.made.layout in
+    (around_is c.args.given c.args.patches.now c.requires.may.step c.requires.may.unfilled) c.in_ok-run.ensures.made.layout in
     record {
       layout = record { made_for = all_around c.args.given c.args.patches.now; of_problem = refl; unfilled = refl; all = refl; laid_out = h.laid_out };
       masses = h.masses;
@@ -81,9 +84,9 @@ returns-in_err-run-clause-apart g c = subst ArePatchesApart (sym c.in_err-run.en
 
 pub layout_for-layout-requires-clause-inside : goal.layout_for-layout-requires-clause-inside
 layout_for-layout-requires-clause-inside g c κs within =
-    subst (AreInDomain (domain c.args.given.problem.now c.args.given.level)) (whole_is c.args.given c.args.order c.args.patches.now c.args.register.now c.requires.may) c.requires.may.step.level.inside
+    subst (AreInDomain (domain c.args.given.problem.now c.args.given.level)) (whole_is c.args.given c.args.patches.now c.requires.may.step c.requires.may.unfilled) c.requires.may.step.level.inside
 
 pub run_level-run-requires-clause-layout : goal.run_level-run-requires-clause-layout
 run_level-run-requires-clause-layout g c κs within =
     subst (λ (a : Around). ServesLevel a (masses_in c.args.patches.now) (old_masses (option_copied c.args.given.old)) c.in_ok-layout.layout)
-    (sym (around_is c.args.given c.args.order c.args.patches.now c.args.register.now c.requires.may)) c.in_ok-layout.ensures.layout
+    (sym (around_is c.args.given c.args.patches.now c.requires.may.step c.requires.may.unfilled)) c.in_ok-layout.ensures.layout
