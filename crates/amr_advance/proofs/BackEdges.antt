@@ -1,16 +1,12 @@
 -- The lists of register cells of a level, lent to its lots and taken back with what flows in.
+use Rattle.amr_layout.specs.Surroundings.{Around}
 use Rattle.std.proofs.Common.{◌≡◌, ◌∙◌, ℕ, zero, suc, ◌*◌, ◌<◌, ◌≤◌, List, [], ◌∷◌, length, get_or, map, drop, refl, sym, ap, subst, arith}
-use Rattle.std.specs.declared.option.Option.{Option}
 use Rattle.std.specs.Global.{Box, Vec}
 use Rattle.std.specs.List.{All, AllZip}
 use Rattle.std.proofs.lemmas.List.Elements.{All-drop, All-take}
-use Rattle.amr_box.specs.declared.Cell.{Cell}
-use Rattle.amr_def.specs.declared.problem.Problem.{Problem}
 use Rattle.amr_def.specs.Domain.{domain}
 use Rattle.amr_def.specs.State.{Masses}
 use Rattle.amr_def.specs.Flux.{net}
-use Rattle.amr_patch.specs.declared.levels.Level.{Level as Held}
-use Rattle.amr_patch.specs.declared.patches.Patch.{Patch}
 use Rattle.amr_patch.specs.Patches.{box, masses_in}
 use Rattle.amr_layout.proofs.Planned.{nth}
 use Rattle.amr_register.specs.declared.edges.EdgeCell.{EdgeCell}

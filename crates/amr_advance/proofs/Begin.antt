@@ -9,9 +9,7 @@ use Rattle.std.proofs.lemmas.List.{get_or-map, get_or_past, length-map}
 use Rattle.std.proofs.lemmas.List.FromFn.{get_or-map-range_with_len, length-map-range_with_len}
 use Rattle.std.proofs.lemmas.List.Folds.{flat_map-map}
 use Rattle.std.proofs.lemmas.Bool.Decides.{Decides-eqb}
-use Rattle.amr_box.specs.declared.Cell.{Cell}
 use Rattle.amr_box.specs.declared.Face.{Face}
-use Rattle.amr_def.specs.declared.problem.Problem.{Problem}
 use Rattle.amr_def.specs.State.{Masses}
 use Rattle.amr_def.specs.Flux.{Fluxes, flux_at}
 use Rattle.amr_patch.specs.declared.levels.Level.{Level as Held}
@@ -26,7 +24,7 @@ use Rattle.amr_layout.specs.declared.PatchLayout.{PatchLayout}
 use Rattle.amr_layout.specs.declared.PutAt.{PutAt}
 use Rattle.amr_layout.specs.Adds.{flows_of, word_total, size_to}
 use Rattle.amr_layout.specs.Arounds.{all_borders, all_puts}
-use Rattle.amr_layout.specs.Surroundings.{Around, around}
+use Rattle.amr_layout.specs.Surroundings.{Around}
 use Rattle.amr_layout.proofs.Planned.{nth}
 use Rattle.amr_lots.specs.declared.lot.StepBasis.{StepBasis}
 use Rattle.amr_lots.specs.declared.lot.Duty.TheVariants.{Step}

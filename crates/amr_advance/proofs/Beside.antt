@@ -19,7 +19,6 @@ use Rattle.amr_patch.specs.declared.levels.Level.{Level as Held}
 use Rattle.amr_patch.specs.declared.patches.Patch.{Patch}
 use Rattle.amr_patch.specs.Patches.{box, mass_in, masses_in}
 use Rattle.amr_patch.specs.Places.{is_edge_face}
-use Rattle.amr_patch.proofs.Lookups.{masses_in-at, same_default}
 use Rattle.amr_faces.specs.Faces.{IsInDomain, ShowsValues, masked_faces}
 use Rattle.amr_flows.specs.Laws.{plain_size}
 use Rattle.amr_flux.specs.declared.fluxes.PatchSides.{PatchSides}
@@ -33,7 +32,7 @@ use Rattle.amr_layout.specs.Adds.{flows_of, word_total, size_to}
 use Rattle.amr_layout.specs.LevelFlowLists.{flow_lists, flows_at}
 use Rattle.amr_layout.specs.Arounds.{all_places_read, all_puts}
 use Rattle.amr_layout.specs.Places.{HasMask}
-use Rattle.amr_layout.specs.Surroundings.{Around, around, domain_around}
+use Rattle.amr_layout.specs.Surroundings.{Around, domain_around}
 use Rattle.amr_layout.specs.PartFlows.{AreNumbered, IsNumbered}
 use Rattle.amr_register.specs.EdgeCells.{AreEdgesIn, lists_of}
 use Rattle.amr_lots.specs.declared.lot.StepBasis.{StepBasis}

@@ -1,14 +1,10 @@
 -- The lots of a level, handed their runs: each packs its messages, and with the messages of all others its frames can be filled.
 use Rattle.std.proofs.Common.{◌≡◌, ◌∙◌, ℕ, ◌+◌, ◌*◌, ◌<◌, Bool, true, false, List, length, get_or, map, refl, sym, ap, subst, arith}
-use Rattle.std.specs.declared.option.Option.{Option}
 use Rattle.std.specs.Global.{Box, Vec}
 use Rattle.std.specs.List.{All, AllZip}
 use Rattle.std.proofs.lemmas.List.Elements.{All-same, AllZip-get_or, length_all_zip}
-use Rattle.amr_box.specs.declared.Cell.{Cell}
-use Rattle.amr_def.specs.declared.problem.Problem.{Problem}
 use Rattle.amr_def.specs.Domain.{domain}
 use Rattle.amr_def.specs.State.{Masses}
-use Rattle.amr_patch.specs.declared.levels.Level.{Level as Held}
 use Rattle.amr_patch.specs.declared.patches.Patch.{Patch}
 use Rattle.amr_patch.specs.Patches.{box, masses_in}
 use Rattle.amr_ghost.specs.Messages.{AreMessagesTo, IsFrameCopy, IsMessageFrom, IsMessageTo, IsReceived, IsTaken}
@@ -19,7 +15,7 @@ use Rattle.amr_ghost.specs.declared.parts.FrameParts.{FrameParts}
 use Rattle.amr_ghost.specs.declared.sources.GhostSpan.{GhostSpan}
 use Rattle.amr_ghost.proofs.Carrying.{carries_packed}
 use Rattle.amr_ghost.proofs.PartLaws.{copies_received, copies_taken, outer_beside, outer_spans}
-use Rattle.amr_layout.specs.Surroundings.{around}
+use Rattle.amr_layout.specs.Surroundings.{Around}
 use Rattle.amr_register.specs.declared.edges.EdgeCell.{EdgeCell}
 use Rattle.amr_register.specs.EdgeCells.{AreEdgesIn, lists_of}
 use Rattle.amr_lots.specs.declared.lot.Lot.{Lot}
@@ -150,7 +146,7 @@ module _ {s : Around} {old : Masses} {t : Lots} (level : IsInStep s old t) where
   -- by a workspace of run k, of the run's patches or of others that are those
   pub can_fill : (k : ℕ) → k < length t.lots.items → (x : Workspace) → ServesRun s t.each k (length t.lots.items) level.lots.parts x → (rs : List Patch) → rs ≡ run t.each k s.patches → CanFill s.problem s.level rs x
   can_fill k lt x of rs is = record {
-    level = level.shallow;
+    level = level.may.level;
     spans = All-same (IsOuterSpan (domain s.problem s.level)) x.outer.spans.items (get_or level.lots.parts.outer.items k x.outer.spans).items (of.outer x.outer.spans) (outer_spans (domain s.problem s.level) s.patches level.lots.plan t.each runs parts (lot_spans s t level.lots) level.lots.parted k x.outer.spans lt);
     outer = subst (λ rs. AreOuterBeside rs x.outer) (sym is) (All-same (IsSpanBeside (run t.each k s.patches)) x.outer.spans.items (get_or level.lots.parts.outer.items k x.outer.spans).items (of.outer x.outer.spans) (beside k x.outer.spans lt), of.outer_places);
     copies = subst (λ rs. All (IsFrameCopy rs) x.copies.items) (sym is) (All-same (IsFrameCopy (run t.each k s.patches)) x.copies.items (copies k k x.copies) (of.copies x.copies) (λ i c below. (taken k k x.copies lt lt i c below, received k k x.copies lt lt i c below)));

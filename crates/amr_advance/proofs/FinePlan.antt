@@ -1,18 +1,14 @@
 -- The plan of what the patches of a level post, one task a patch, and what the places that a patch reads have in it.
 use Rattle.std.proofs.Common.{◌≡◌, ◌∙◌, ℕ, ◌+◌, ◌<◌, ◌≤◌, List, [], ◌∷◌, length, get_or, map, refl, sym, ap, subst, arith}
 use Rattle.std.specs.Prelude.{IsTrue, pos, slice_index, unsigned_abs}
-use Rattle.std.specs.declared.option.Option.{Option}
 use Rattle.std.specs.List.{All, Contains}
 use Rattle.std.proofs.lemmas.List.{get_or-map, length-map}
 use Rattle.std.proofs.lemmas.List.FromFn.{get_or-map-range_with_len, length-map-range_with_len, length-range_with_len}
-use Rattle.amr_box.specs.declared.Cell.{Cell}
 use Rattle.amr_box.specs.declared.Face.{Face}
 use Rattle.amr_box.specs.declared.Axis.TheVariants.{X}
-use Rattle.amr_def.specs.declared.problem.Problem.{Problem}
 use Rattle.amr_def.specs.Domain.{Domain, domain}
 use Rattle.amr_def.specs.State.{Masses}
 use Rattle.amr_def.specs.Flux.{Fluxes, face, flux_at}
-use Rattle.amr_patch.specs.declared.levels.Level.{Level as Held}
 use Rattle.amr_patch.specs.declared.patches.Patch.{Patch}
 use Rattle.amr_patch.specs.Patches.{ArePatchesApart, box, masses_in}
 use Rattle.amr_patch.specs.Places.{is_edge_face}
@@ -30,7 +26,7 @@ use Rattle.amr_layout.specs.Adds.{flows_of, word_total}
 use Rattle.amr_layout.specs.Arounds.{all_places_read, all_puts}
 use Rattle.amr_layout.specs.Places.{HasMask, border_places, borders_of, home_face, places_before, puts_of}
 use Rattle.amr_layout.specs.Posts.{add_post, patch_plan, patch_task, put_post}
-use Rattle.amr_layout.specs.Surroundings.{Around, around, domain_around}
+use Rattle.amr_layout.specs.Surroundings.{Around, domain_around}
 use Rattle.amr_lots.specs.Ready.{ReadsBorder}
 use Rattle.amr_lots.specs.Works.{put_by}
 use Rattle.amr_phase.specs.declared.plan.Post.{Post}

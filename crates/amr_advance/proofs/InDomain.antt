@@ -1,5 +1,5 @@
 -- Patches of a level, which lie in its domain.
-use Rattle.std.proofs.Common.{◌≤◌, ◌^◌, ◌+◌, ◌*◌, ◌+ℤ◌, ◌-ℤ◌, pos, ℕ, List, [], ◌∷◌, length, ap, arith, ◌∙◌}
+use Rattle.std.proofs.Common.{◌≤◌, ◌^◌, ◌+ℤ◌, ◌-ℤ◌, pos, ℕ, List, [], ◌∷◌, length, ap, arith, ◌∙◌}
 use Rattle.std.proofs.lemmas.Int.{ints}
 use Rattle.std.specs.List.{All}
 use Rattle.amr_box.specs.Cells.{holds}
@@ -14,7 +14,6 @@ use Rattle.amr_layout.specs.Surroundings.{edge_count}
 use Rattle.amr_patch.specs.Patches.{ArePatchesApart}
 use Rattle.amr_phase.specs.Plans.{total}
 use Rattle.amr_box.proofs.Numbers.{at_least_zero-same}
-use Rattle.amr_box.specs.Cells.{width}
 use Rattle.amr_ghost.specs.Frames.{AreInDomain}
 
 -- the box of each patch of a level lies in its domain

@@ -2,21 +2,17 @@
 -- show the level's values, and may make their step.
 use Rattle.std.proofs.Common.{◌≡◌, ◌∙◌, ℕ, suc, ◌+◌, ◌*◌, ◌^◌, ◌<◌, ◌≤◌, true, List, [], ◌∷◌, length, get_or, map, refl, sym, ap, subst, arith, Bool, false}
 use Rattle.std.specs.Prelude.{◌==◌, if◌then◌else◌, unsigned_abs}
-use Rattle.std.specs.declared.option.Option.{Option}
 use Rattle.std.specs.List.{All, AllZip, Contains}
 use Rattle.std.proofs.lemmas.List.{get_or-map, length-map}
 use Rattle.std.proofs.lemmas.List.Elements.{AllZip-get_or, length_all_zip, All-same}
-use Rattle.amr_box.specs.declared.Cell.{Cell}
 use Rattle.amr_box.specs.declared.Face.{Face}
 use Rattle.amr_box.specs.Cells.{Extent, width}
-use Rattle.amr_def.specs.declared.problem.Problem.{Problem}
 use Rattle.amr_def.specs.Domain.{domain, Domain}
 use Rattle.amr_def.specs.State.{Masses}
 use Rattle.amr_def.specs.Value.{value_at}
 use Rattle.amr_def.specs.Flux.{Fluxes, flux_at}
-use Rattle.amr_patch.specs.declared.levels.Level.{Level as Held}
 use Rattle.amr_patch.specs.declared.patches.Patch.{Patch}
-use Rattle.amr_patch.specs.Patches.{ArePatchesApart, box, masses_in}
+use Rattle.amr_patch.specs.Patches.{box, masses_in}
 use Rattle.amr_patch.specs.Places.{is_edge_face, is_face_of}
 use Rattle.amr_faces.specs.Faces.{IsInDomain, ShowsValues, flux_beside}
 use Rattle.amr_faces.proofs.EdgeFaces.{edge_is_face}
@@ -34,12 +30,12 @@ use Rattle.amr_ghost.proofs.PartLaws.{outer_valued, run_frames}
 use Rattle.amr_ghost.proofs.Zips.{keeps_refl, zip_boxes, zip_refl}
 use Rattle.amr_layout.specs.declared.FlowTo.{FlowTo}
 use Rattle.amr_layout.specs.Adds.{flows_of, word_total}
-use Rattle.amr_layout.specs.Surroundings.{Around, around}
+use Rattle.amr_layout.specs.Surroundings.{Around}
 use Rattle.amr_layout.proofs.Planned.{level_few}
 use Rattle.amr_register.proofs.EdgeLists.{zip_from}
 use Rattle.amr_lots.specs.declared.lot.Workspace.{Workspace}
 use Rattle.amr_lots.specs.FrameValues.{AreFilled, HasFoundOuter, HasValuesBy, HasValuesOrLevel}
-use Rattle.amr_lots.specs.Lots.{AreEdgeFlows, HasStepped, IsStepped, LevelStepFits, MayStep, adds_to, lot_total}
+use Rattle.amr_lots.specs.Lots.{AreEdgeFlows, HasStepped, IsStepped, MayStep, adds_to, lot_total}
 use Rattle.amr_lots.specs.Runs.{run}
 use Rattle.amr_lots.proofs.LotTotals.{lot_total_is}
 use Rattle.amr_lots.proofs.Runs.{run_at, run_place}
@@ -50,7 +46,6 @@ use Rattle.amr_advance.proofs.RunLists.{run_is, total_run_most}
 use Rattle.amr_advance.proofs.OnePatch as OnePatch
 use Rattle.amr_ghost.specs.Plans.{IsSpan, PlansFrames}
 use Rattle.amr_ghost.specs.declared.plan.FramePlan.{FramePlan}
-use Rattle.amr_ghost.specs.declared.sources.GhostSpan.{GhostSpan}
 use Rattle.amr_advance.proofs.FilledFrames.{still_filled}
 use Rattle.amr_layout.proofs.Among.{inside_among}
 

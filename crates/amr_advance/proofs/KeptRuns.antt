@@ -1,4 +1,5 @@
 -- Lots in a phase that posts nothing: they are handed a level's patches, are served, and are handed what they had before.
+use Rattle.amr_advance.proofs.InLots.{lot_spans}
 use Rattle.std.proofs.Common.{◌≡◌, ◌∙◌, ℕ, ◌+◌, ◌*◌, ◌^◌, ◌<◌, ◌≤◌, Bool, true, false, List, [], length, get_or, map, refl, sym, ap, subst, arith}
 use Rattle.std.specs.Global.{Box, Vec}
 use Rattle.std.specs.List.{All, AllZip}
@@ -165,7 +166,7 @@ module _ {t : Lots} (ps : List Patch) (made : AreLotsFor (map box ps) t) where
   taken_from : (u k : ℕ) (v : Vec FrameCopy) → u < length t.lots.items → k < length t.lots.items → All (IsTaken (run t.each u ps)) (get_or made.lots.parts.copies.items (u * length t.lots.items + k) v).items
   taken_from u k v from_there there = λ i c lt.
       taken_of_boxes (run t.each u made.made_for.patches) (run t.each u ps) (sym (boxes_of_run u)) _
-      (copies_taken (domain made.made_for.problem made.made_for.level) made.made_for.patches made.made_for.patches made.lots.plan t.each (length t.lots.items) made.lots.parts made.lots.planned made.lots.parted (zip_refl KeepsCells keeps_refl made.made_for.patches) u k (run t.each u made.made_for.patches) v from_there there (run_is t.each u made.made_for.patches) i c lt)
+      (copies_taken (domain made.made_for.problem made.made_for.level) made.made_for.patches made.made_for.patches made.lots.plan t.each (length t.lots.items) made.lots.parts (lot_spans made.made_for t made.lots) made.lots.parted (zip_refl KeepsCells keeps_refl made.made_for.patches) u k (run t.each u made.made_for.patches) v from_there there (run_is t.each u made.made_for.patches) i c lt)
 
   -- so each lot has messages from its run of them
   pub sends_run : (k : ℕ) (x : Box Lot) → k < length t.lots.items → All (IsMessageFrom (run t.each k ps)) (get_or t.lots.items k x).value.workspace.outbox.items

@@ -4,7 +4,6 @@ use Rattle.std.specs.declared.option.Option.{Option}
 use Rattle.std.specs.Global.{Box, Vec}
 use Rattle.std.specs.List.{All, AllZip}
 use Rattle.std.proofs.lemmas.List.Elements.{AllZip-get_or, length_all_zip}
-use Rattle.amr_box.specs.declared.Cell.{Cell}
 use Rattle.amr_box.specs.Cells.{Extent}
 use Rattle.amr_def.specs.declared.problem.Problem.{Problem}
 use Rattle.amr_def.specs.Domain.{domain}
@@ -20,7 +19,7 @@ use Rattle.amr_ghost.specs.declared.messages.Message.{Message}
 use Rattle.amr_ghost.specs.declared.parts.FrameParts.{FrameParts}
 use Rattle.amr_ghost.proofs.Carrying.{packed_carries, taken_of_boxes}
 use Rattle.amr_ghost.proofs.Zips.{boxes_of_zip}
-use Rattle.amr_layout.specs.Surroundings.{Around, around}
+use Rattle.amr_layout.specs.Surroundings.{Around}
 use Rattle.amr_layout.proofs.Planned.{nth}
 use Rattle.amr_register.specs.declared.edges.EdgeCell.{EdgeCell}
 use Rattle.amr_register.specs.CoarseFlows.{edge_flows}

@@ -8,7 +8,6 @@ use Rattle.std.specs.declared.sync.Arc.{Arc}
 use Rattle.std.specs.Global.{Box, Global, Vec}
 use Rattle.std.specs.List.{All, AllZip}
 use Rattle.std.proofs.lemmas.List.Elements.{AllZip-get_or, length_all_zip}
-use Rattle.amr_box.specs.declared.Cell.{Cell}
 use Rattle.amr_def.specs.declared.problem.Problem.{Problem}
 use Rattle.amr_def.specs.State.{Masses}
 use Rattle.amr_def.specs.Value.{value_at}
@@ -19,7 +18,7 @@ use Rattle.amr_ghost.specs.declared.sources.GhostSpan.{GhostSpan}
 use Rattle.amr_ghost.specs.Frames.{is_of_level}
 use Rattle.amr_ghost.specs.Messages.{CarriesMasses}
 use Rattle.amr_ghost.specs.Outer.{AreOuterValuesFor, HasNoMass, HasOuterPlaces, IsOuterSpan, lent, value_count}
-use Rattle.amr_layout.specs.Surroundings.{Around, around}
+use Rattle.amr_layout.specs.Surroundings.{Around}
 use Rattle.amr_lots.specs.declared.lot.Lot.{Lot}
 use Rattle.amr_lots.specs.FrameValues.{CanFill, FollowFrom, HasValuesBy, HasValuesOrLevel}
 use Rattle.amr_lots.specs.Runs.{run}
@@ -155,7 +154,8 @@ serves_run s t h k x lt = by_case (is_one t) h.made
 module _ (s : Around) (old : Masses) (t : Lots) (may : MayStepLevel s old) (lots : AreLots s t) where
   fills : (k : ℕ) (x : Box Lot) → k < length t.lots.items → CanFill s.problem s.level (run t.each k s.patches) (get_or t.lots.items k x).value.workspace
   fills k x lt =
-      can_fill (in_step s old t may lots) k lt (get_or t.lots.items k x).value.workspace (serves_run s t lots k x lt) (run t.each k s.patches) refl
+      let level = in_step s old t may lots in
+      can_fill level k lt (get_or t.lots.items k x).value.workspace (serves_run s t level.lots k x lt) (run t.each k s.patches) refl
 
   pub all_spans : All (λ (x : Box Lot). All (IsOuterSpan (domain s.problem s.level)) x.value.workspace.outer.spans.items) t.lots.items
   all_spans k x lt = (fills k x lt).spans

@@ -4,16 +4,13 @@ use Rattle.std.specs.Box.{with_value}
 use Rattle.std.specs.Global.{Box, Vec}
 use Rattle.std.specs.List.{All, AllZip}
 use Rattle.std.specs.Vec.{with_item}
-use Rattle.std.specs.declared.option.Option.{Option}
 use Rattle.std.specs.Prelude.{slice_index}
 use Rattle.std.proofs.lemmas.List.{ext_get_or, get_or-map, length-map}
 use Rattle.std.proofs.lemmas.List.Elements.{All-drop, All-take, AllZip-get_or, length_all_zip}
 use Rattle.std.proofs.lemmas.List.FromFn.{get_or-map-range_with_len, length-map-range_with_len}
-use Rattle.amr_box.specs.declared.Cell.{Cell}
-use Rattle.amr_def.specs.declared.problem.Problem.{Problem}
 use Rattle.amr_def.specs.State.{Masses}
 use Rattle.amr_def.specs.Flux.{Fluxes, flux_at}
-use Rattle.amr_layout.specs.Surroundings.{around, Around}
+use Rattle.amr_layout.specs.Surroundings.{Around}
 use Rattle.amr_layout.specs.declared.FlowTo.{FlowTo}
 use Rattle.amr_layout.specs.Adds.{flows_of}
 use Rattle.amr_layout.specs.LevelFlowLists.{flow_lists, flows_at}
@@ -26,7 +23,6 @@ use Rattle.amr_lots.specs.Ready.{CanStep, HasFlowsIn}
 use Rattle.amr_lots.specs.LotSteps.{HasSteppedAlone, HaveEdgeNets}
 use Rattle.amr_lots.specs.Lots.{AreEdgeFlows, AreReady, HasStepped, IsStepped, lot_total}
 use Rattle.amr_lots.specs.Runs.{run}
-use Rattle.amr_patch.specs.declared.levels.Level.{Level as Held}
 use Rattle.amr_patch.specs.declared.patches.Patch.{Patch}
 use Rattle.amr_patch.specs.Patches.{box, masses_in}
 use Rattle.amr_patch.proofs.Lookups.{same_default}

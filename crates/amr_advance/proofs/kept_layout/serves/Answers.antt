@@ -1,4 +1,4 @@
-use Rattle.std.proofs.Common.{◌∙◌, List, ap, sym}
+use Rattle.std.proofs.Common.{◌∙◌, List, ap, sym, refl}
 use Rattle.std.specs.Option.{option_copied}
 use Rattle.amr_box.specs.Cells.{Extent, in_boxes}
 use Rattle.amr_layout.specs.Surroundings.{around}

@@ -1,4 +1,4 @@
-use Rattle.std.proofs.Common.{◌≡◌, ◌∙◌, ◌+◌, ◌-◌, ◌*◌, length, sym, arith}
+use Rattle.std.proofs.Common.{◌≡◌, ◌∙◌, ◌+◌, ◌*◌, length, sym, arith}
 use Rattle.amr_layout.specs.Arounds.{around_of}
 use Rattle.amr_advance.specs.Cuts.{IsRunOf}
 use Rattle.amr_advance.proofs.LotCounts.{run_there}

@@ -14,7 +14,7 @@ use Rattle.amr_advance.proofs.MadeLots.{layouts_made, several_are}
 use Rattle.amr_advance.proofs.lots.several_lots.Goals as goal
 
 pub part_frames-requires-clause-enough : goal.part_frames-requires-clause-enough
-part_frames-requires-clause-enough c = plan_small (domain c.args.s.problem.now c.args.s.level) c.args.s.patches.now c.args.frames.now c.lot_size-each.result c.lot_count-runs.result c.requires.frames
+part_frames-requires-clause-enough c = plan_small (domain c.args.s.problem.now c.args.s.level) c.args.s.patches.now c.args.frames.now c.lot_size-each.result c.lot_count-runs.result c.requires.frames.spans
     (subst (λ e. length c.args.s.patches.now ≤ c.lot_count-runs.result * e) (sym c.lot_size-each.ensures.size) c.lot_count-runs.ensures.enough)
 
 pub plan-requires-clause-inside : goal.plan-requires-clause-inside

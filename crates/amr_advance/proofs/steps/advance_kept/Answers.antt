@@ -19,7 +19,6 @@ use Rattle.amr_patch.proofs.Standing.{order_of_boxes}
 use Rattle.amr_register.specs.declared.register.Register.{Register}
 use Rattle.amr_register.specs.Fields.{HasEdgesOf}
 use Rattle.amr_advance.specs.KeptLayouts.{IsKeptOf, totals_in}
-use Rattle.amr_advance.specs.Phases.{IsBasisOf}
 use Rattle.amr_advance.specs.Registers.{BothChange, cells_of, taken}
 use Rattle.amr_advance.specs.Totals.{HasTotals}
 use Rattle.amr_advance.proofs.Parts.{on_err}

@@ -82,10 +82,6 @@ returns-clause-kept g c =
 pub returns-in_err-run-clause-apart : goal.returns-in_err-run-clause-apart
 returns-in_err-run-clause-apart g c = subst ArePatchesApart (sym c.in_err-run.ensures.same) c.requires.may.step.level.once
 
-pub layout_for-layout-requires-clause-inside : goal.layout_for-layout-requires-clause-inside
-layout_for-layout-requires-clause-inside g c κs within =
-    subst (AreInDomain (domain c.args.given.problem.now c.args.given.level)) (whole_is c.args.given c.args.patches.now c.requires.may.step c.requires.may.unfilled) c.requires.may.step.level.inside
-
 pub run_level-run-requires-clause-layout : goal.run_level-run-requires-clause-layout
 run_level-run-requires-clause-layout g c κs within =
     subst (λ (a : Around). ServesLevel a (masses_in c.args.patches.now) (old_masses (option_copied c.args.given.old)) c.in_ok-layout.layout)
