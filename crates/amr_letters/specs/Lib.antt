@@ -1,2 +1,3 @@
 pub mod Beside
 pub mod Told
+pub mod Filled
