@@ -7,6 +7,7 @@ use Rattle.amr_def.specs.State.{Masses}
 use Rattle.amr_patch.specs.declared.patches.Patch.{Patch}
 use Rattle.amr_patch.specs.Places.{grown, in_frame}
 use Rattle.amr_patch.specs.Patches.{SameFluxes, SameOtherValues, box, ghost_in, mark_in, value_in}
+use Rattle.amr_ghost.specs.GhostCells.{KeepsCells}
 use Rattle.amr_post.specs.declared.ranks.Rank.{Rank}
 use Rattle.amr_letters.specs.Beside.{beside_cell}
 use Rattle.amr_letters.specs.Told.{TellsFrame}
@@ -30,6 +31,11 @@ pub record AreSlotsFilled (value : ℕ → ℕ) (count : ℕ) (q r : Patch) : Ty
   pub others : (c : Cell) → IsTrue (holds (grown (box q)) c) → ((slot : ℕ) → slot < count → c ≢ beside_cell (box q) slot) → value_in r c ≡ value_in q c
   pub marks : SameFrameMarks q r
   pub fluxes : SameFluxes q r
+
+-- all stays but the values of ghost cells beside the patch
+pub record KeepsAllButValues (q r : Patch) : Type 0 where
+  pub cells : KeepsCells q r
+  pub marks : SameFrameMarks q r
 
 -- each patch has an owner, and the node of that rank tells the patch's frame. The patch has the number of its place.
 pub record TellFrames (p : Problem) (l : ℕ) (m old : Masses) (ps : List Patch) (owners : List ℕ) (ranks : List Rank) : Type 0 where
