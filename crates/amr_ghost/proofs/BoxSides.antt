@@ -8,7 +8,7 @@ use Rattle.std.proofs.Math.Bool.{and-false}
 use Rattle.amr_box.proofs.Boxes.{int_le-no, int_le-yes}
 use Rattle.amr_box.specs.declared.Cell.{Cell}
 use Rattle.amr_box.specs.declared.Axis.{Axis}
-use Rattle.amr_box.specs.Cells.{Extent, IsNear, along, at_least_zero, cell, holds, within}
+use Rattle.amr_box.specs.Cells.{Extent, IsNear, along, at_least_zero, cell, height, holds, width, within}
 use Rattle.amr_box.proofs.CellLists.{in_range}
 use Rattle.amr_def.specs.Domain.{Domain, in_domain, is_inside}
 use Rattle.amr_patch.specs.declared.patches.Patch.{Patch}
@@ -72,10 +72,10 @@ out_y b c x y out = frame_of (within (b.lo.x -ℤ pos 1) (b.hi.x +ℤ pos 1) c.x
 within_grown : (low high z : ℤ) → (low -ℤ pos 1) ≤ℤ z → z ≤ℤ (high +ℤ pos 1) → within (low -ℤ pos 1) (high +ℤ pos 1) z ≡ true
 within_grown low high z from to = rw (int_le-yes (low -ℤ pos 1) z from, int_le-yes z (high +ℤ pos 1) to)
 
-below_out : (low high z : ℤ) → z <ℤ low → within low high z ≡ false
+pub below_out : (low high z : ℤ) → z <ℤ low → within low high z ≡ false
 below_out low high z h = rw (int_le-no low z h)
 
-above_out : (low high z : ℤ) → high <ℤ z → within low high z ≡ false
+pub above_out : (low high z : ℤ) → high <ℤ z → within low high z ≡ false
 above_out low high z h = rw (int_le-no z high h) (and-false (int_le low z))
 
 -- the k-th cell from a coordinate on is below the end of as many
@@ -116,6 +116,18 @@ side_beside b West k wide high t = in_a_row (in_frame b (cell (b.lo.x -ℤ pos 1
 side_beside b East k wide high t = in_a_row (in_frame b (cell (b.hi.x +ℤ pos 1) (b.lo.y +ℤ pos k))) (within b.lo.x b.hi.x (b.hi.x +ℤ pos 1)) (within b.lo.y b.hi.y (b.lo.y +ℤ pos k)) (side_ghost b East k wide high t) (in_range b.lo.y b.hi.y k t)
 side_beside b South k wide high t = in_a_column (in_frame b (cell (b.lo.x +ℤ pos k) (b.lo.y -ℤ pos 1))) (within b.lo.x b.hi.x (b.lo.x +ℤ pos k)) (within b.lo.y b.hi.y (b.lo.y -ℤ pos 1)) (side_ghost b South k wide high t) (in_range b.lo.x b.hi.x k t)
 side_beside b North k wide high t = in_a_column (in_frame b (cell (b.lo.x +ℤ pos k) (b.hi.y +ℤ pos 1))) (within b.lo.x b.hi.x (b.lo.x +ℤ pos k)) (within b.lo.y b.hi.y (b.hi.y +ℤ pos 1)) (side_ghost b North k wide high t) (in_range b.lo.x b.hi.x k t)
+
+pub west_beside : (b : Extent) (k : ℕ) → b.lo.x ≤ℤ b.hi.x → b.lo.y ≤ℤ b.hi.y → k < height b → IsTrue (is_beside b (cell (b.lo.x -ℤ pos 1) (b.lo.y +ℤ pos k)))
+west_beside b k wide high t = side_beside b West k wide high t
+
+pub east_beside : (b : Extent) (k : ℕ) → b.lo.x ≤ℤ b.hi.x → b.lo.y ≤ℤ b.hi.y → k < height b → IsTrue (is_beside b (cell (b.hi.x +ℤ pos 1) (b.lo.y +ℤ pos k)))
+east_beside b k wide high t = side_beside b East k wide high t
+
+pub south_beside : (b : Extent) (k : ℕ) → b.lo.x ≤ℤ b.hi.x → b.lo.y ≤ℤ b.hi.y → k < width b → IsTrue (is_beside b (cell (b.lo.x +ℤ pos k) (b.lo.y -ℤ pos 1)))
+south_beside b k wide high t = side_beside b South k wide high t
+
+pub north_beside : (b : Extent) (k : ℕ) → b.lo.x ≤ℤ b.hi.x → b.lo.y ≤ℤ b.hi.y → k < width b → IsTrue (is_beside b (cell (b.lo.x +ℤ pos k) (b.hi.y +ℤ pos 1)))
+north_beside b k wide high t = side_beside b North k wide high t
 
 pub inside_of : (n : ℕ) (z : ℤ) → pos 0 ≤ℤ z → z <ℤ pos n → IsTrue (is_inside n z)
 inside_of n z from to = grind (arith, ints)
@@ -231,6 +243,16 @@ beside_of P b sides c h = by_ranges (within b.lo.x b.hi.x c.x) (within b.lo.y b.
         no_range true false true x y h = cc
         no_range true false false x y h = cc
         no_range false a e x y h = cc
+
+-- all ghost cells beside a box stand west or east of its rows, or south or north of its columns
+pub by_sides : (P : Cell → Type 0) (b : Extent) → ((k : ℕ) → k < height b → P (cell (b.lo.x -ℤ pos 1) (b.lo.y +ℤ pos k))) → ((k : ℕ) → k < height b → P (cell (b.hi.x +ℤ pos 1) (b.lo.y +ℤ pos k))) → ((k : ℕ) → k < width b → P (cell (b.lo.x +ℤ pos k) (b.lo.y -ℤ pos 1))) → ((k : ℕ) → k < width b → P (cell (b.lo.x +ℤ pos k) (b.hi.y +ℤ pos 1))) → (c : Cell) → IsTrue (is_beside b c) → P c
+by_sides P b west east south north c h = beside_of P b side_of c h
+  where
+    side_of : (side : Side) (k : ℕ) → k < side_count b side → P (step (side_axis side) (side_from b side) k)
+    side_of West k t = west k t
+    side_of East k t = east k t
+    side_of South k t = south k t
+    side_of North k t = north k t
 
 -- ---- the same, of the box that a call answers
 

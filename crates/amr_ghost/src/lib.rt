@@ -19,6 +19,7 @@ mod sources;
 pub use fills::{FrameSources, fill, find_sources};
 pub use messages::{Message, fill_run, pack_messages};
 pub use outer::OuterGhosts;
+pub use outside::outside_value;
 pub use parts::{FrameCopy, FrameParts, part_frames};
 pub use plan::{FramePlan, plan_frames};
 pub use runs::plan_frames_in_threads;

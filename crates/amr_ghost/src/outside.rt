@@ -44,8 +44,9 @@ fn inflow_at(p: &Problem, l: u32, c: Cell) -> u64
     high_inflow(&p.y_sides)
 }
 
-/// The value of a cell outside of a side: the side's inflow, at each finer level a quarter of that of the next coarser level.
-pub(crate) fn outside_value(p: &Problem, l: u32, c: Cell) -> u64
+/// The value of a cell outside of a side of the domain of level `l`, from 0 to 4: the side's inflow, at each finer level a quarter of that
+/// of the next coarser level.
+pub fn outside_value(p: &Problem, l: u32, c: Cell) -> u64
     requires { l ≤ 4 }
     ensures value { result ≡ inflow_at p.now l c / 4 ^ l }
     ensures small { result < 2 ^ 32 }

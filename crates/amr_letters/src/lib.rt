@@ -1,0 +1,14 @@
+//! Frames of patches that ranks tell each other of by letters.
+//!
+//! - [`beside_count`], [`beside_cell`]: the slots of a frame, which are the ghost cells beside a box, one after another.
+//! - [`cells_beside_a_box`]: each of them has one slot.
+//! - [`fill_frame`], [`fill_frames`]: the frame of a patch, and those of all patches of a level, filled from what nodes have.
+#![tactic(auto)]
+
+mod beside;
+mod fill;
+mod laws;
+
+pub use beside::{beside_cell, beside_count};
+pub use fill::{fill_frame, fill_frames};
+pub use laws::cells_beside_a_box;
