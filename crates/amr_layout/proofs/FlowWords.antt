@@ -10,7 +10,7 @@ use Rattle.amr_layout.specs.declared.FlowTo.{FlowTo}
 use Rattle.amr_layout.specs.declared.adds.Surroundings.{Surroundings}
 use Rattle.amr_layout.specs.declared.level_flows.LevelFlows.{LevelFlows}
 use Rattle.amr_layout.specs.Adds.{AreInOrder, HasCellsBeyond, HasRegisterCells, flows_of}
-use Rattle.amr_layout.specs.Arounds.{CanSearch, HasWordsFor, around_of}
+use Rattle.amr_layout.specs.Arounds.{CanSearch, HasWordsFor, around_of, AreAll}
 use Rattle.amr_layout.specs.LevelFlowLists.{AreFlowsOf, level_flows}
 use Rattle.amr_layout.specs.Surroundings.{Around}
 use Rattle.amr_layout.proofs.Counts.{cells_few}
@@ -25,10 +25,11 @@ level_words s (Ok v) cells h = subst (All (λ (x : FlowTo). x.word < 2 + 2 * len
 level_words s (Err e) cells h = tt
 
 -- a level's patches can be searched
-pub searches : (s : Surroundings) → s.level ≤ 4 → IsOrderOf s.order s.patches.now → ArePatchesApart s.patches.now → HasStarts s.patches.now s.starts.now → HasRegisterCells (around_of s) → CanSearch s
-searches s level order apart starts cells = record {
+pub searches : (s : Surroundings) → s.level ≤ 4 → IsOrderOf s.order s.patches.now → ArePatchesApart s.patches.now → HasStarts s.patches.now s.starts.now → HasRegisterCells (around_of s) → AreAll s → CanSearch s
+searches s level order apart starts cells all = record {
   level = level;
   patches = record { order_of = order; apart = apart; has_starts = starts };
   ordered = cells.ordered;
   few = omega (arith, cells_few (around_of s) level cells);
+  whole = all;
 }

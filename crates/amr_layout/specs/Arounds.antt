@@ -1,5 +1,5 @@
 -- What lies around a level as calls are handed it, and what its patches have of a layout, patch by patch.
-use Rattle.std.specs.Prelude.{ℕ, ◌+◌, ◌*◌, ◌^◌, ◌<◌, ◌≤◌, List, length, map}
+use Rattle.std.specs.Prelude.{◌≡◌, ℕ, ◌+◌, ◌*◌, ◌^◌, ◌<◌, ◌≤◌, List, length, map}
 use Rattle.std.specs.Fork.{slice_chunk}
 use Rattle.std.specs.List.{All, AllZip}
 use Rattle.std.specs.Option.{option_copied}
@@ -19,10 +19,22 @@ use Rattle.amr_layout.specs.declared.level_flows.LevelFlows.{LevelFlows}
 use Rattle.amr_layout.specs.Adds.{AreInOrder, HasCellsBeyond}
 use Rattle.amr_layout.specs.LevelFlowLists.{AreFlowsOfRun}
 use Rattle.amr_layout.specs.Places.{HasMask, level_borders, level_places, puts_of}
-use Rattle.amr_layout.specs.Surroundings.{Around, around, domain_around}
+use Rattle.amr_layout.specs.Surroundings.{Around, domain_around, finer_masses}
 
 abbrev pub around_of : Surroundings → Around
-around_of s = around s.problem.now s.level s.patches.now s.cells.now (option_copied s.finer)
+around_of s = record {
+  problem = s.problem.now;
+  level = s.level;
+  patches = s.patches.now;
+  whole = s.whole.now.value.items;
+  filled = s.filled;
+  cells = s.cells.now;
+  finer = finer_masses (option_copied s.finer);
+}
+
+-- all patches of the level are worked on
+abbrev pub AreAll : Surroundings → Type 0
+AreAll s = s.whole.now.value.items ≡ s.patches.now
 
 -- ---- of all patches, in groups of so many
 
@@ -56,6 +68,7 @@ pub record CanSearch (s : Surroundings) : Type 0 where
   pub patches : CanLookUp s.order s.patches.now s.starts.now
   pub ordered : AreInOrder s.cells.now
   pub few : length s.cells.now ≤ 2 ^ 30
+  pub whole : AreAll s
 
 -- what a search for the flows of a run of patches stands on
 abbrev pub MayFindFlows : Surroundings → List Patch → Type 0

@@ -8,7 +8,7 @@ ghost use Rattle.amr_def.specs.Domain.{domain};
 ghost use Rattle.amr_def.specs.State.{is_covered};
 ghost use Rattle.amr_faces.specs.Faces.{IsInDomain};
 ghost use Rattle.amr_patch.specs.Gaps.{IsGap};
-ghost use Rattle.amr_layout.specs.Arounds.{CanSearch, around_of};
+ghost use Rattle.amr_layout.specs.Arounds.{CanSearch, around_of, AreAll};
 ghost use Rattle.amr_layout.specs.Surroundings.{IsInRowOrColumn, IsNearFace, IsReachable, LiesBesideLevel};
 ghost use Rattle.amr_layout.specs.Surroundings.{edge_count, edge_face, finer_masses, is_coarse_fine};
 ghost use Rattle.amr_layout.specs.Adds.{AreInOrder, HasCellsBeyond, cell_beyond, flow_to_any, flows_of, goes_on, number_of, word_of};
@@ -22,6 +22,7 @@ use amr_box::{Bx, Cell, Face, parent};
 use amr_causes::NoMemory;
 use amr_def::Problem;
 use amr_patch::{Level, Order, Patch, Starts};
+use std::snapshot::Snapshot;
 
 /// A level with what lies around it.
 #[derive(Clone, Copy)]
@@ -29,7 +30,7 @@ pub struct Surroundings<'a> {
     pub problem: &'a Problem,
     /// The number of the level.
     pub level: u32,
-    /// All patches of the level.
+    /// The patches of the level that are worked on.
     pub patches: &'a [Patch],
     pub order: Order,
     /// Where the patches start.
@@ -38,6 +39,10 @@ pub struct Surroundings<'a> {
     pub cells: &'a [Cell],
     /// The next finer level, where there is one.
     pub finer: Option<&'a Level>,
+    /// Whether the frames of the patches are filled beforehand.
+    pub filled: bool,
+    /// All patches of the level, for contracts alone.
+    pub whole: &'a Snapshot<Vec<Patch>>,
 }
 
 /// Where the look-ups for a patch begin: among the patches of its level, among those of the next finer one, and among register
@@ -104,6 +109,7 @@ fn word_of(s: Surroundings<'_>, near: &mut Near, b: &Bx, f: Face) -> Option<u32>
 /// How many of the faces after face `n`, whose flow goes to this word, lie beside the patch found last: their flows go to none.
 fn more_kept(s: Surroundings<'_>, at: usize, b: &Bx, n: u32, word: Option<u32>) -> u32
     requires level { s.level ≤ 4 }
+    requires all { AreAll s }
     requires near { IsNear b.now }
     requires inside { IsInDomain (domain s.problem.now s.level) b.now }
     requires there { n < edge_count b.now }

@@ -8,7 +8,7 @@ ghost use Rattle.amr_patch.specs.Orders.{IsOrderOf};
 ghost use Rattle.amr_faces.specs.Faces.{IsInDomain};
 ghost use Rattle.amr_patch.specs.Gaps.{HasStarts};
 ghost use Rattle.amr_phase.specs.Plans.{total};
-ghost use Rattle.amr_layout.specs.Arounds.{CanSearch, around_of};
+ghost use Rattle.amr_layout.specs.Arounds.{CanSearch, around_of, AreAll};
 ghost use Rattle.amr_layout.specs.Surroundings.{edge_count};
 ghost use Rattle.amr_layout.specs.Adds.{HasCellsBeyond, HasRegisterCells};
 ghost use Rattle.amr_layout.specs.LevelFlowLists.{AreFlowsOf, AreFlowsOfRun, HasFlowsAt, flows_at};
@@ -78,6 +78,7 @@ pub fn plan_adds(alloc: Global, surroundings: Surroundings<'_>) -> Result<LevelF
     requires apart { ArePatchesApart surroundings.patches.now }
     requires starts { HasStarts surroundings.patches.now surroundings.starts.now }
     requires inside { All (λ q. IsInDomain (domain surroundings.problem.now surroundings.level) (box q)) surroundings.patches.now }
+    requires all { AreAll surroundings }
     requires cells { HasRegisterCells (around_of surroundings) }
     ensures flows { IfOk result (AreFlowsOf (around_of surroundings.entry)) }
     ensures words { IfOk result (λ v. All (λ x. x.word < 2 + 2 * length surroundings.entry.cells.now) v.flows.items) }

@@ -4,7 +4,7 @@ ghost use Rattle.std.specs.Prelude.{◌≡◌, ℕ, ◌+◌, ◌≤◌, ◌<◌,
 ghost use Rattle.amr_box.specs.Cells.{IsNear};
 ghost use Rattle.amr_def.specs.Domain.{domain};
 ghost use Rattle.amr_faces.specs.Faces.{IsInDomain};
-ghost use Rattle.amr_layout.specs.Arounds.{around_of};
+ghost use Rattle.amr_layout.specs.Arounds.{around_of, AreAll};
 ghost use Rattle.amr_layout.specs.Surroundings.{LiesBesideLevel, edge_count, edge_face};
 
 use crate::adds::Surroundings;
@@ -25,6 +25,7 @@ fn steps_to(z: i32, end: i32, other: i32, other_end: i32) -> u32
 /// patch `at`, as face `n` does. It may be 0; then face `n` need not lie beside that patch.
 pub(crate) fn more_beside(s: Surroundings<'_>, at: usize, b: &Bx, n: u32) -> u32
     requires level { s.level ≤ 4 }
+    requires all { AreAll s }
     requires near { IsNear b.now }
     requires inside { IsInDomain (domain s.problem.now s.level) b.now }
     requires there { n < edge_count b.now }

@@ -1,3 +1,4 @@
+use Rattle.amr_patch.specs.Patches.{in_patches}
 use Rattle.std.proofs.Common.{◌≡◌, not, ◌&&◌, pos, sym, ap, subst, ◌∙◌, to_z, of_z, w64, arith}
 use Rattle.std.specs.Prelude.{Contains, IfSome}
 use Rattle.std.proofs.lemmas.Int.{ints}
@@ -24,7 +25,7 @@ opens c = open_at (around_of c.args.s) c.args.b.now c.args.f c.home_cell-home.re
 coarse : (c : After-is_some) → is_coarse_fine (around_of c.args.s) c.args.b.now c.args.f ≡ (c.in_domain.result && not c.is_some.result)
 coarse c =
     let at = (goal.at.After-is_some c).After-in_domain in
-    coarse_at (around_of c.args.s) c.args.b.now c.args.f c.home_cell-home.result (home at) c.in_domain.result c.is_some.result (there at) (c.is_some.ensures ∙ c.look_beside.ensures.some)
+    coarse_at (around_of c.args.s) c.args.b.now c.args.f c.home_cell-home.result (home at) c.in_domain.result c.is_some.result (there at) (c.is_some.ensures ∙ c.look_beside.ensures.some ∙ ap (λ ps. in_patches ps c.home_cell-home.result) (sym c.requires.search.whole))
 
 some_flows : (c : After-in_domain) → inward c.args.s.problem.now c.args.s.level c.args.b.now c.args.f ≡ pos 0 → ⊥
 some_flows c z = let e = c.inward-inward.ensures ∙ z in c.if-inward-eq0.false (omega (arith, ints, e))

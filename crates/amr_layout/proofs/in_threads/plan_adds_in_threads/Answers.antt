@@ -5,7 +5,7 @@ use Rattle.amr_layout.proofs.FlowWords.{level_words, searches}
 use Rattle.amr_layout.proofs.in_threads.plan_adds_in_threads.Goals as goal
 
 pub flows_by_runs-requires-clause-search : goal.flows_by_runs-requires-clause-search
-flows_by_runs-requires-clause-search g c κs within = searches c.args.surroundings c.requires.level c.requires.order c.requires.apart c.requires.starts c.requires.cells
+flows_by_runs-requires-clause-search g c κs within = searches c.args.surroundings c.requires.level c.requires.order c.requires.apart c.requires.starts c.requires.cells c.requires.all
 
 pub returns-clause-words : goal.returns-clause-words
 returns-clause-words g c = level_words c.args.surroundings c.flows_by_runs.result c.requires.cells c.flows_by_runs.ensures

@@ -5,7 +5,7 @@ use Rattle.amr_layout.proofs.FlowWords.{level_words, searches}
 use Rattle.amr_layout.proofs.level_flows.plan_adds.Goals as goal
 
 pub flows_of_run-requires-clause-search : goal.flows_of_run-requires-clause-search
-flows_of_run-requires-clause-search c = searches c.args.surroundings c.requires.level c.requires.order c.requires.apart c.requires.starts c.requires.cells
+flows_of_run-requires-clause-search c = searches c.args.surroundings c.requires.level c.requires.order c.requires.apart c.requires.starts c.requires.cells c.requires.all
 
 pub returns-clause-words : goal.returns-clause-words
 returns-clause-words c = level_words c.args.surroundings c.flows_of_run.result c.requires.cells c.flows_of_run.ensures

@@ -1,3 +1,5 @@
+use Rattle.amr_patch.specs.Patches.{in_patches}
+use Rattle.amr_layout.specs.Arounds.{around_of}
 use Rattle.std.proofs.Common.{◌≡◌, ◌-◌, true, pos, ◌+ℤ◌, ◌≤ℤ◌, sym, ap, subst, ◌∙◌, arith}
 use Rattle.std.specs.Option.{option_copied}
 use Rattle.std.proofs.lemmas.Int.{ints}
@@ -39,8 +41,8 @@ returns-in-X-clause-count c =
     let held : holds q h ≡ true = sym c.holds.ensures ∙ c.if-not-holds.false in
     let within : (f.y +ℤ pos c.steps_to.result) ≤ℤ b.hi.y = omega (arith, ints, c.steps_to.ensures.within, c.hi.ensures.y) in
     let reach : (h.y +ℤ pos c.steps_to.result) ≤ℤ q.hi.y = omega (arith, ints, c.steps_to.ensures.other_within, c.hi-in-X.ensures.y) in
-    (x_beside (around c.args.s.problem.now c.args.s.level c.args.s.patches.now c.args.s.cells.now (option_copied c.args.s.finer)) b q c.requires.near c.requires.inside c.args.n c.steps_to.result f h (sym c.edge_face-f.ensures) home there held
-    (λ k e. of_patch c.args.s.patches.now k c.args.at c.index-s-at.result q (omega arith) c.index-s-at.is c.bx-q.ensures.value e)
+    (x_beside (around_of c.args.s) b q c.requires.near c.requires.inside c.args.n c.steps_to.result f h (sym c.edge_face-f.ensures) home there held
+    (λ k e. ap (λ ps. in_patches ps k) c.requires.all ∙ of_patch c.args.s.patches.now k c.args.at c.index-s-at.result q (omega arith) c.index-s-at.is c.bx-q.ensures.value e)
     c.in-X.is within reach).0
 
 pub returns-in-X-clause-beside : goal.returns-in-X-clause-beside
@@ -55,8 +57,8 @@ returns-in-X-clause-beside c m after upto =
     let held : holds q h ≡ true = sym c.holds.ensures ∙ c.if-not-holds.false in
     let within : (f.y +ℤ pos (m - c.args.n)) ≤ℤ b.hi.y = omega (arith, ints, c.steps_to.ensures.within, c.hi.ensures.y) in
     let reach : (h.y +ℤ pos (m - c.args.n)) ≤ℤ q.hi.y = omega (arith, ints, c.steps_to.ensures.other_within, c.hi-in-X.ensures.y) in
-    x_stretch (around c.args.s.problem.now c.args.s.level c.args.s.patches.now c.args.s.cells.now (option_copied c.args.s.finer)) b q c.requires.near c.requires.inside c.args.n (m - c.args.n) f h (sym c.edge_face-f.ensures) home there held
-    (λ k e. of_patch c.args.s.patches.now k c.args.at c.index-s-at.result q (omega arith) c.index-s-at.is c.bx-q.ensures.value e)
+    x_stretch (around_of c.args.s) b q c.requires.near c.requires.inside c.args.n (m - c.args.n) f h (sym c.edge_face-f.ensures) home there held
+    (λ k e. ap (λ ps. in_patches ps k) c.requires.all ∙ of_patch c.args.s.patches.now k c.args.at c.index-s-at.result q (omega arith) c.index-s-at.is c.bx-q.ensures.value e)
     c.in-X.is within reach m (omega arith) (omega arith)
 
 pub returns-in-Y-clause-count : goal.returns-in-Y-clause-count
@@ -71,8 +73,8 @@ returns-in-Y-clause-count c =
     let held : holds q h ≡ true = sym c.holds.ensures ∙ c.if-not-holds.false in
     let within : (f.x +ℤ pos c.steps_to-in-Y.result) ≤ℤ b.hi.x = omega (arith, ints, c.steps_to-in-Y.ensures.within, c.hi-in-Y.ensures.x) in
     let reach : (h.x +ℤ pos c.steps_to-in-Y.result) ≤ℤ q.hi.x = omega (arith, ints, c.steps_to-in-Y.ensures.other_within, c.hi-in-Y-2.ensures.x) in
-    (y_beside (around c.args.s.problem.now c.args.s.level c.args.s.patches.now c.args.s.cells.now (option_copied c.args.s.finer)) b q c.requires.near c.requires.inside c.args.n c.steps_to-in-Y.result f h (sym c.edge_face-f.ensures) home there held
-    (λ k e. of_patch c.args.s.patches.now k c.args.at c.index-s-at.result q (omega arith) c.index-s-at.is c.bx-q.ensures.value e)
+    (y_beside (around_of c.args.s) b q c.requires.near c.requires.inside c.args.n c.steps_to-in-Y.result f h (sym c.edge_face-f.ensures) home there held
+    (λ k e. ap (λ ps. in_patches ps k) c.requires.all ∙ of_patch c.args.s.patches.now k c.args.at c.index-s-at.result q (omega arith) c.index-s-at.is c.bx-q.ensures.value e)
     c.in-Y.is within reach).0
 
 pub returns-in-Y-clause-beside : goal.returns-in-Y-clause-beside
@@ -87,6 +89,6 @@ returns-in-Y-clause-beside c m after upto =
     let held : holds q h ≡ true = sym c.holds.ensures ∙ c.if-not-holds.false in
     let within : (f.x +ℤ pos (m - c.args.n)) ≤ℤ b.hi.x = omega (arith, ints, c.steps_to-in-Y.ensures.within, c.hi-in-Y.ensures.x) in
     let reach : (h.x +ℤ pos (m - c.args.n)) ≤ℤ q.hi.x = omega (arith, ints, c.steps_to-in-Y.ensures.other_within, c.hi-in-Y-2.ensures.x) in
-    y_stretch (around c.args.s.problem.now c.args.s.level c.args.s.patches.now c.args.s.cells.now (option_copied c.args.s.finer)) b q c.requires.near c.requires.inside c.args.n (m - c.args.n) f h (sym c.edge_face-f.ensures) home there held
-    (λ k e. of_patch c.args.s.patches.now k c.args.at c.index-s-at.result q (omega arith) c.index-s-at.is c.bx-q.ensures.value e)
+    y_stretch (around_of c.args.s) b q c.requires.near c.requires.inside c.args.n (m - c.args.n) f h (sym c.edge_face-f.ensures) home there held
+    (λ k e. ap (λ ps. in_patches ps k) c.requires.all ∙ of_patch c.args.s.patches.now k c.args.at c.index-s-at.result q (omega arith) c.index-s-at.is c.bx-q.ensures.value e)
     c.in-Y.is within reach m (omega arith) (omega arith)
