@@ -1,9 +1,11 @@
 -- Frames that were filled before a step: where a lot has no ghost cells to fill, it leaves them as they are.
-use Rattle.std.proofs.Common.{◌≡◌, ◌∙◌, ◌||◌, ℕ, ◌+◌, ◌*◌, ◌<◌, List, [], ◌∷◌, length, get_or, IsTrue, refl, sym, ap, subst, arith}
+use Rattle.amr_ghost.specs.Plans.{IsSpan}
+use Rattle.amr_def.specs.Domain.{Domain}
+use Rattle.std.proofs.Common.{◌≡◌, ◌∙◌, ◌||◌, ℕ, ◌+◌, ◌*◌, ◌<◌, List, [], ◌∷◌, length, get_or, IsTrue, refl, sym, ap, subst, arith, Bool, true, false}
 use Rattle.std.specs.Global.{Vec}
 use Rattle.std.specs.List.{All}
 use Rattle.std.proofs.lemmas.Bool.{and_parts}
-use Rattle.std.proofs.lemmas.List.Elements.{AllZip-get_or}
+use Rattle.std.proofs.lemmas.List.Elements.{AllZip-get_or, All-same}
 use Rattle.amr_box.specs.declared.Cell.{Cell}
 use Rattle.amr_box.specs.Cells.{Extent, within}
 use Rattle.amr_def.specs.declared.problem.Problem.{Problem}
@@ -14,7 +16,7 @@ use Rattle.amr_patch.specs.Patches.{box, mark_in}
 use Rattle.amr_patch.specs.Places.{in_frame}
 use Rattle.amr_ghost.specs.Frames.{HasGhostValues, is_beside}
 use Rattle.amr_ghost.specs.GhostCells.{KeepsGhosts}
-use Rattle.amr_ghost.specs.Messages.{AreMassesFor, HasFilled, IsCopyFor, IsMessageFor}
+use Rattle.amr_ghost.specs.Messages.{AreMassesFor, HasFilled, IsCopyFor, IsMessageFor, AreMassesOf, CarriesMasses}
 use Rattle.amr_ghost.specs.Outer.{AreOuterFor, AreOuterValuesFor}
 use Rattle.amr_ghost.specs.Parts.{IsParted}
 use Rattle.amr_ghost.specs.declared.messages.Message.{Message}
@@ -24,12 +26,17 @@ use Rattle.amr_ghost.specs.declared.parts.FrameParts.{FrameParts}
 use Rattle.amr_ghost.specs.declared.plan.FramePlan.{FramePlan}
 use Rattle.amr_ghost.specs.declared.sources.GhostSpan.{GhostSpan}
 use Rattle.amr_ghost.proofs.Zips.{zip_box}
-use Rattle.amr_advance.specs.Lots.{AreMessagesOf}
+use Rattle.amr_advance.specs.Lots.{AreMessagesOf, PlansUnlessFilled}
 use Rattle.amr_advance.proofs.Boxes.{box_copies}
 
 no_items : {X : Type 0} (xs : List X) → All (λ (x : X). ⊥) xs → xs ≡ []
 no_items [] h = refl
 no_items (x ∷ xs) h = absurd (h 0 x (omega arith))
+
+-- a plan of frames has spans beside the patches
+pub spans_of : (filled : Bool) (d : Domain) (ps : List Patch) (plan : FramePlan) → PlansUnlessFilled filled d ps plan → All (IsSpan d ps) plan.spans.items
+spans_of false d ps plan h = h.spans
+spans_of true d ps plan h = All-same (IsSpan d ps) plan.spans.items [] h (λ k x lt. absurd (omega (arith, lt)))
 
 module _ (plan : FramePlan) (each runs : ℕ) (parts : FrameParts) (none : plan.spans.items ≡ []) (parted : IsParted plan each runs parts) where
   no_outer : (k : ℕ) (v : Vec GhostSpan) → k < runs → (get_or parts.outer.items k v).items ≡ []
@@ -37,6 +44,12 @@ module _ (plan : FramePlan) (each runs : ℕ) (parts : FrameParts) (none : plan.
 
   no_copies : (u t : ℕ) (v : Vec FrameCopy) → u < runs → t < runs → All (λ (c : FrameCopy). ⊥) (get_or parts.copies.items (u * runs + t) v).items
   no_copies u t v from_there there = λ n c below. let a = (parted.copies u t v from_there there n c below).2 in absurd (let m = a.2 in omega (arith, m, ap length none))
+
+  -- so messages carry whatever masses there are
+  pub none_carry : (M : Masses) (k : ℕ) (v : Vec FrameCopy) (out : List Message) → k < runs → AreMessagesOf parts (λ t. k * runs + t) k runs out → All (CarriesMasses M) out
+  none_carry M k v out lt of = λ n x below.
+      let empty = no_items (get_or out n x).copies.items (box_copies of (λ (c : FrameCopy). ⊥) v (λ t there. no_copies k t v lt there) n x below).0 in
+      subst (λ (cs : List FrameCopy). AreMassesOf M cs (get_or out n x).masses.items) (sym empty) tt
 
   module _ (p : Problem) (l : ℕ) (m old : Masses) (k : ℕ) (lt : k < runs) (rs fs : List Patch) (given : OuterGhosts) (spans : given.spans.items ≡ (get_or parts.outer.items k given.spans).items)
       (v : Vec FrameCopy) (inbox : List Message) (of_inbox : AreMessagesOf parts (λ u. u * runs + k) k runs inbox) (filled : HasFilled given (get_or parts.copies.items (k * runs + k) v).items inbox rs fs) where

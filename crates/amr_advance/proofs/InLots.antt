@@ -46,7 +46,7 @@ use Rattle.amr_advance.proofs.RunLists.{run_is, total_run_most}
 use Rattle.amr_advance.proofs.OnePatch as OnePatch
 use Rattle.amr_ghost.specs.Plans.{IsSpan, PlansFrames}
 use Rattle.amr_ghost.specs.declared.plan.FramePlan.{FramePlan}
-use Rattle.amr_advance.proofs.FilledFrames.{still_filled}
+use Rattle.amr_advance.proofs.FilledFrames.{still_filled, spans_of}
 use Rattle.amr_layout.proofs.Among.{inside_among}
 
 pub same_words : (f g : Face → ℕ) (word : ℕ) (xs : List FlowTo) → All (λ (x : FlowTo). f x.face ≡ g x.face) xs → word_total f word xs ≡ word_total g word xs
@@ -65,10 +65,6 @@ pub in_step : (s : Around) (old : Masses) (t : Lots) → MayStepLevel s old → 
 in_step s old t may lots = record { may = may; lots = lots }
 
 -- a plan of frames has spans beside the patches
-spans_of : (filled : Bool) (d : Domain) (ps : List Patch) (plan : FramePlan) → PlansUnlessFilled filled d ps plan → All (IsSpan d ps) plan.spans.items
-spans_of false d ps plan h = h.spans
-spans_of true d ps plan h = All-same (IsSpan d ps) plan.spans.items [] h (λ k x lt. absurd (omega (arith, lt)))
-
 pub lot_spans : (s : Around) (t : Lots) (lots : AreLots s t) → All (IsSpan (domain s.problem s.level) s.patches) lots.plan.spans.items
 lot_spans s t lots = spans_of s.filled (domain s.problem s.level) s.patches lots.plan lots.planned
 

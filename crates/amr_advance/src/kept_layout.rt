@@ -1,6 +1,6 @@
 //! What a level's step stands on that depends on boxes alone: worked out once, and kept until boxes change.
 
-ghost use Rattle.std.specs.Prelude.{◌≡◌, ◌<◌, ◌≤◌, ◌^◌, ℕ, true, List, length, map, is_some, IfOk, IfSome, IsTrue};
+ghost use Rattle.std.specs.Prelude.{◌≡◌, ◌<◌, ◌≤◌, ◌^◌, ℕ, true, false, List, length, map, is_some, IfOk, IfSome, IsTrue};
 ghost use Rattle.std.specs.List.{All};
 ghost use Rattle.std.specs.Option.{option_copied};
 ghost use Rattle.amr_box.specs.declared.Cell.{Cell};
@@ -15,7 +15,7 @@ ghost use Rattle.amr_layout.specs.Surroundings.{finer_masses};
 ghost use Rattle.amr_ghost.specs.Frames.{AreInDomain};
 ghost use Rattle.amr_lots.specs.Runs.{lot_count};
 ghost use Rattle.amr_advance.specs.KeptLayouts.{Forgets, IsKeptLayout, IsKeptOf, IsLaidOut, ServesLevel};
-ghost use Rattle.amr_advance.specs.Steps.{all_around, coarser_masses};
+ghost use Rattle.amr_advance.specs.Steps.{all_around, coarser_masses, whole_of};
 
 use crate::level::StepInput;
 use crate::lots::{Lots, make_lots};
@@ -159,6 +159,8 @@ fn lay_out_anew<R: Threads + Sync>(
     old: Vec<Box<Lot>>,
 ) -> Result<KeptLayout, NoMemory>
     requires level { given.level ≤ 4 }
+    requires all { whole_of given ≡ patches.now }
+    requires unfilled { given.filled ≡ false }
     requires order { IsOrderOf order patches.now }
     requires apart { ArePatchesApart patches.now }
     requires inside { AreInDomain (domain given.problem.now given.level) patches.now }
@@ -176,6 +178,8 @@ fn lay_out_anew<R: Threads + Sync>(
         starts: &starts,
         cells: given.cells,
         finer: given.finer,
+        filled: given.filled,
+        whole: &given.basis.patches,
     };
     let frames = plan_frames_in_threads(
         rt,
@@ -230,6 +234,8 @@ pub fn layout_for<R: Threads + Sync>(
     kept: &mut Option<KeptLayout>,
 ) -> Result<KeptLayout, NoMemory>
     requires level { given.level ≤ 4 }
+    requires all { whole_of given ≡ patches.now }
+    requires unfilled { given.filled ≡ false }
     requires order { IsOrderOf order patches.now }
     requires apart { ArePatchesApart patches.now }
     requires inside { AreInDomain (domain given.problem.now given.level) patches.now }

@@ -9,14 +9,13 @@ ghost use Rattle.amr_def.specs.State.{Masses};
 ghost use Rattle.amr_def.specs.declared.problem.Problem.{Problem as problem};
 ghost use Rattle.amr_patch.specs.Patches.{box};
 ghost use Rattle.amr_phase.specs.Plans.{total};
-ghost use Rattle.amr_ghost.specs.Plans.{PlansFrames};
 ghost use Rattle.amr_layout.specs.Adds.{HasRegisterCells};
-ghost use Rattle.amr_layout.specs.Arounds.{around_of};
+ghost use Rattle.amr_layout.specs.Arounds.{AreAll, around_of};
 ghost use Rattle.amr_layout.specs.Surroundings.{edge_count};
 ghost use Rattle.amr_lots.specs.Runs.{lot_count};
 ghost use Rattle.amr_lots.specs.declared.lot.Lot.{Lot as lot};
 ghost use Rattle.amr_advance.specs.Cuts.{AreLayoutsFrom, AreLevelFlows, IsCut, IsSurroundings};
-ghost use Rattle.amr_advance.specs.Lots.{AreLots, AreLotsOf, IsLotOf, IsWholeLot, is_one, totals_of};
+ghost use Rattle.amr_advance.specs.Lots.{AreLots, AreLotsOf, PlansUnlessFilled, IsLotOf, IsWholeLot, is_one, totals_of};
 
 use crate::workspaces::{Cut, take_layouts, whole_workspace, workspace_for};
 use amr_board::Shape;
@@ -194,7 +193,7 @@ fn one_lot(
     requires few { length s.cells.now ≤ 2 ^ 30 }
     requires edges { total (λ q. edge_count (box q)) s.patches.now ≤ 2 ^ 30 }
     requires flows { AreLevelFlows (around_of s) flows }
-    requires frames { PlansFrames (domain s.problem.now s.level) s.patches.now frames.now }
+    requires frames { PlansUnlessFilled s.filled (domain s.problem.now s.level) s.patches.now frames.now }
     ensures lots { IfOk result (AreLots (around_of s.entry)) }
     ensures one { IfOk result (λ t. length t.lots.items ≡ 1) }
     ensures masses { IfOk result (λ t. (p : problem) (l : ℕ) (own old : Masses) → AreLotsOf p l own old t) }
@@ -235,7 +234,7 @@ fn several_lots(
     requires edges { total (λ q. edge_count (box q)) s.patches.now ≤ 2 ^ 30 }
     requires cells { HasRegisterCells (around_of s) }
     requires flows { AreLevelFlows (around_of s) flows.now }
-    requires frames { PlansFrames (domain s.problem.now s.level) s.patches.now frames.now }
+    requires frames { PlansUnlessFilled s.filled (domain s.problem.now s.level) s.patches.now frames.now }
     ensures lots { IfOk result (AreLots (around_of s.entry)) }
     ensures count { IfOk result (λ t. length t.lots.items ≡ lot_count wanted (length s.entry.patches.now)) }
     ensures masses { IfOk result (λ t. (p : problem) (l : ℕ) (own old : Masses) → AreLotsOf p l own old t) }
@@ -263,15 +262,41 @@ fn several_lots(
             places,
             words: words as u32,
         },
-        packed: false,
+        packed: s.filled,
         valued: false,
         lots,
         totals: vec![in alloc; 0u64; words]?,
     })
 }
 
-/// The lots of these patches, where so many are wanted. This plan tells where the ghost cells get their values from. Where each flow goes is
-/// worked out by as many threads. Old lots leave the patches that stand in them.
+/// The lots of these patches, where so many are wanted: these are their flows to words, and this plan tells where the ghost cells get their
+/// values from. Old lots leave the patches that stand in them.
+pub fn lots_of(
+    alloc: Global,
+    s: Surroundings<'_>,
+    frames: &FramePlan,
+    flows: LevelFlows,
+    wanted: usize,
+    old: Vec<Box<Lot>>,
+) -> Result<Lots, NoMemory>
+    requires level { IsSurroundings s }
+    requires small { length s.patches.now ≤ 2 ^ 26 }
+    requires few { length s.cells.now ≤ 2 ^ 30 }
+    requires edges { total (λ q. edge_count (box q)) s.patches.now ≤ 2 ^ 30 }
+    requires cells { HasRegisterCells (around_of s) }
+    requires flows { AreLevelFlows (around_of s) flows }
+    requires frames { PlansUnlessFilled s.filled (domain s.problem.now s.level) s.patches.now frames.now }
+    ensures lots { IfOk result (AreLots (around_of s.entry)) }
+    ensures count { IfOk result (λ t. 0 < length s.entry.patches.now → length t.lots.items ≡ lot_count wanted (length s.entry.patches.now)) }
+    ensures masses { IfOk result (λ t. (p : problem) (l : ℕ) (own old : Masses) → AreLotsOf p l own old t) }
+{
+    if wanted < 2 {
+        return one_lot(alloc, s, frames, flows);
+    }
+    several_lots(alloc, s, frames, &flows, wanted, old)
+}
+
+/// The lots of all patches of a level. Where each flow goes is worked out by as many threads as lots are wanted.
 pub(crate) fn make_lots<R: Threads + Sync>(
     rt: &R,
     alloc: Global,
@@ -280,19 +305,17 @@ pub(crate) fn make_lots<R: Threads + Sync>(
     wanted: usize,
     old: Vec<Box<Lot>>,
 ) -> Result<Lots, NoMemory>
+    requires all { AreAll s }
     requires level { IsSurroundings s }
     requires cells { HasRegisterCells (around_of s) }
-    requires frames { PlansFrames (domain s.problem.now s.level) s.patches.now frames.now }
+    requires frames { PlansUnlessFilled s.filled (domain s.problem.now s.level) s.patches.now frames.now }
     ensures lots { IfOk result (AreLots (around_of s.entry)) }
     ensures count { IfOk result (λ t. 0 < length s.entry.patches.now → length t.lots.items ≡ lot_count wanted (length s.entry.patches.now)) }
     ensures masses { IfOk result (λ t. (p : problem) (l : ℕ) (own old : Masses) → AreLotsOf p l own old t) }
     ensures few { OnOk result (2 + 2 * length s.entry.cells.now < 2 ^ 32) }
 {
     let flows = plan_adds_in_threads(rt, wanted, alloc, s)?;
-    if wanted < 2 {
-        return one_lot(alloc, s, frames, flows);
-    }
-    several_lots(alloc, s, frames, &flows, wanted, old)
+    lots_of(alloc, s, frames, flows, wanted, old)
 }
 
 /// The totals of the words of the level, after a step.

@@ -1,3 +1,4 @@
+use Rattle.amr_advance.proofs.FilledFrames.{spans_of}
 use Rattle.std.proofs.Common.{◌≡◌, ◌∙◌, ◌*◌, ◌≤◌, List, [], ◌∷◌, ◌++◌, length, get_or, refl, sym, ap, subst, arith}
 use Rattle.std.specs.Global.{Box}
 use Rattle.std.specs.List.{All}
@@ -14,7 +15,7 @@ use Rattle.amr_advance.proofs.WholeRun.{alone_carries, one_carries}
 use Rattle.amr_advance.proofs.lots.one_lot.Goals as goal
 
 pub part_frames-requires-clause-enough : goal.part_frames-requires-clause-enough
-part_frames-requires-clause-enough c = plan_small (domain c.args.s.problem.now c.args.s.level) c.args.s.patches.now c.args.frames.now c.max-each.result 1 c.requires.frames.spans (omega (arith, c.max-each.ensures))
+part_frames-requires-clause-enough c = plan_small (domain c.args.s.problem.now c.args.s.level) c.args.s.patches.now c.args.frames.now c.max-each.result 1 (spans_of c.args.s.filled (domain c.args.s.problem.now c.args.s.level) c.args.s.patches.now c.args.frames.now c.requires.frames) (omega (arith, c.max-each.ensures))
 
 pub whole_lot-requires-clause-flows : goal.whole_lot-requires-clause-flows
 whole_lot-requires-clause-flows c = c.requires.flows

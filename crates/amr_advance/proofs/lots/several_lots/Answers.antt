@@ -1,4 +1,5 @@
-use Rattle.std.proofs.Common.{◌≡◌, ◌∙◌, ◌+◌, ◌*◌, ◌<◌, ◌≤◌, false, List, length, get_or, refl, sym, subst, arith}
+use Rattle.amr_advance.proofs.FilledFrames.{spans_of, none_carry}
+use Rattle.std.proofs.Common.{◌≡◌, ◌∙◌, ◌+◌, ◌*◌, ◌<◌, ◌≤◌, false, List, length, get_or, refl, sym, subst, arith, Bool, []}
 use Rattle.std.specs.Global.{Box}
 use Rattle.std.proofs.lemmas.Bool.{false≢true}
 use Rattle.amr_def.specs.Domain.{domain}
@@ -8,13 +9,13 @@ use Rattle.amr_layout.specs.Arounds.{around_of}
 use Rattle.amr_lots.specs.declared.lot.Lot.{Lot}
 use Rattle.amr_advance.specs.declared.lots.Lots.{Lots}
 use Rattle.amr_advance.specs.Cuts.{AreLayoutsFrom}
-use Rattle.amr_advance.specs.Lots.{IsLotOf}
+use Rattle.amr_advance.specs.Lots.{IsLotOf, PlansUnlessFilled}
 use Rattle.amr_advance.proofs.InDomain.{all_lie}
 use Rattle.amr_advance.proofs.MadeLots.{layouts_made, several_are}
 use Rattle.amr_advance.proofs.lots.several_lots.Goals as goal
 
 pub part_frames-requires-clause-enough : goal.part_frames-requires-clause-enough
-part_frames-requires-clause-enough c = plan_small (domain c.args.s.problem.now c.args.s.level) c.args.s.patches.now c.args.frames.now c.lot_size-each.result c.lot_count-runs.result c.requires.frames.spans
+part_frames-requires-clause-enough c = plan_small (domain c.args.s.problem.now c.args.s.level) c.args.s.patches.now c.args.frames.now c.lot_size-each.result c.lot_count-runs.result (spans_of c.args.s.filled (domain c.args.s.problem.now c.args.s.level) c.args.s.patches.now c.args.frames.now c.requires.frames)
     (subst (λ e. length c.args.s.patches.now ≤ c.lot_count-runs.result * e) (sym c.lot_size-each.ensures.size) c.lot_count-runs.ensures.enough)
 
 pub plan-requires-clause-inside : goal.plan-requires-clause-inside
@@ -46,7 +47,7 @@ returns-clause-lots c =
     let parts = c.in_ok-parts.parts in
     let xs : List (Box Lot) = c.in_ok-lots.lots.items in
     let count : length xs ≡ runs = c.in_ok-lots.ensures.count in
-    let t : Lots = record { level = c.args.s.level; wanted = c.args.wanted; each = each; shape = record { places = c.in_ok-places.field-0.places; words = 2 + 2 * length c.args.s.cells.now }; packed = false; valued = false; lots = c.in_ok-lots.lots; totals = c.in_ok-vec.field-0 } in
+    let t : Lots = record { level = c.args.s.level; wanted = c.args.wanted; each = each; shape = record { places = c.in_ok-places.field-0.places; words = 2 + 2 * length c.args.s.cells.now }; packed = c.args.s.filled; valued = false; lots = c.in_ok-lots.lots; totals = c.in_ok-vec.field-0 } in
     record {
       of_level = refl;
       some = c.lot_size-each.ensures.some;
@@ -70,7 +71,16 @@ returns-clause-lots c =
     }
 
 pub returns-clause-masses : goal.returns-clause-masses
-returns-clause-masses c = λ p l own old. record { packed = λ is. absurd (false≢true is); valued = λ is. absurd (false≢true is) }
+returns-clause-masses c = λ p l own old.
+    let count = c.in_ok-lots.ensures.count in
+    record {
+      packed = λ is. λ k x lt.
+          let none : c.args.frames.now.spans.items ≡ [] = subst (λ (b : Bool). PlansUnlessFilled b (domain c.args.s.problem.now c.args.s.level) c.args.s.patches.now c.args.frames.now) is c.requires.frames in
+          let lot = c.in_ok-lots.ensures.lots k x (omega (arith, lt, count)) in
+          none_carry c.args.frames.now c.lot_size-each.result c.lot_count-runs.result c.in_ok-parts.parts none c.in_ok-parts.ensures own k (get_or c.in_ok-lots.lots.items k x).value.workspace.copies
+          (get_or c.in_ok-lots.lots.items k x).value.workspace.outbox.items (omega (arith, lt, count)) lot.serves.outbox;
+      valued = λ is. absurd (false≢true is);
+    }
 
 pub returns-clause-count : goal.returns-clause-count
 returns-clause-count c = c.in_ok-lots.ensures.count ∙ c.lot_count-runs.ensures.count

@@ -50,7 +50,7 @@ returns-clause-stepped g c =
     let old = old_masses (option_copied c.args.given.old) in
     let s = around p l c.args.patches.now c.args.given.cells.now (option_copied c.args.given.finer) in
     let k = c.run_level-run.new.layout in
-    let is = around_is c.args.given c.args.patches.now c.requires.may.step c.requires.may.unfilled in
+    let is = around_is c.args.given c.args.patches.now (whole_is c.args.given c.args.patches.now c.requires.may.step c.requires.may.unfilled) c.requires.may.unfilled in
     let all = whole_is c.args.given c.args.patches.now c.requires.may.step c.requires.may.unfilled in
     let h = subst (λ (a : Around). HasMadeStep a old c.run_level-run.new.patches (lists_of c.deref_mut.result.now) (lists_of c.run_level-run.new.edges) k) is c.in_ok-run.ensures.made in
     let count = kept_count s k h.layout.laid_out in
@@ -73,7 +73,7 @@ pub returns-clause-kept : goal.returns-clause-kept
 returns-clause-kept g c =
     let h =
     subst (λ (a : Around). ServesLevel a (masses_in c.run_level-run.new.patches) (old_masses (option_copied c.args.given.old)) c.run_level-run.new.layout)
-    (around_is c.args.given c.args.patches.now c.requires.may.step c.requires.may.unfilled) c.in_ok-run.ensures.made.layout in
+    (around_is c.args.given c.args.patches.now (whole_is c.args.given c.args.patches.now c.requires.may.step c.requires.may.unfilled) c.requires.may.unfilled) c.in_ok-run.ensures.made.layout in
     record {
       layout = record { made_for = all_around c.args.given c.args.patches.now; of_problem = refl; unfilled = refl; all = refl; laid_out = h.laid_out };
       masses = h.masses;
@@ -85,4 +85,7 @@ returns-in_err-run-clause-apart g c = subst ArePatchesApart (sym c.in_err-run.en
 pub run_level-run-requires-clause-layout : goal.run_level-run-requires-clause-layout
 run_level-run-requires-clause-layout g c κs within =
     subst (λ (a : Around). ServesLevel a (masses_in c.args.patches.now) (old_masses (option_copied c.args.given.old)) c.in_ok-layout.layout)
-    (sym (around_is c.args.given c.args.patches.now c.requires.may.step c.requires.may.unfilled)) c.in_ok-layout.ensures.layout
+    (sym (around_is c.args.given c.args.patches.now (whole_is c.args.given c.args.patches.now c.requires.may.step c.requires.may.unfilled) c.requires.may.unfilled)) c.in_ok-layout.ensures.layout
+
+pub layout_for-requires-clause-all : goal.layout_for-requires-clause-all
+layout_for-requires-clause-all g c κs within = whole_is c.args.given c.args.patches.now c.requires.may.step c.requires.may.unfilled
