@@ -31,6 +31,19 @@ AreFlowsOf s v = AreFlowsOfRun s s.patches v
 abbrev pub flows_at : LevelFlows → ℕ → List FlowTo
 flows_at v i = take (slice_index v.bounds.items (i + 1) - slice_index v.bounds.items i) (drop (slice_index v.bounds.items i) v.flows.items)
 
+-- the flows of the patches with these numbers, patch by patch
+abbrev pub picked_flows : LevelFlows → List ℕ → List FlowTo
+picked_flows v ns = flat_map (flows_at v) ns
+
+-- how many the first i of them have
+abbrev pub picked_in_first : LevelFlows → List ℕ → ℕ → ℕ
+picked_in_first v ns i = length (picked_flows v (take i ns))
+
+-- the list has just these, with their bounds
+pub record AreFlowsPicked (v : LevelFlows) (ns : List ℕ) (w : LevelFlows) : Type 0 where
+  pub flows : w.flows.items ≡ picked_flows v ns
+  pub bounds : w.bounds.items ≡ map (picked_in_first v ns) (range_with_len 0 (length ns + 1))
+
 -- there are such bounds, one after the other, within the list
 pub record HasFlowsAt (v : LevelFlows) (i : ℕ) : Type 0 where
   pub there : i + 1 < length v.bounds.items

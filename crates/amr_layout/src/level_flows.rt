@@ -11,7 +11,7 @@ ghost use Rattle.amr_phase.specs.Plans.{total};
 ghost use Rattle.amr_layout.specs.Arounds.{CanSearch, around_of, AreAll};
 ghost use Rattle.amr_layout.specs.Surroundings.{edge_count};
 ghost use Rattle.amr_layout.specs.Adds.{HasCellsBeyond, HasRegisterCells};
-ghost use Rattle.amr_layout.specs.LevelFlowLists.{AreFlowsOf, AreFlowsOfRun, HasFlowsAt, flows_at};
+ghost use Rattle.amr_layout.specs.LevelFlowLists.{AreFlowsOf, AreFlowsOfRun, AreFlowsPicked, HasFlowsAt, flows_at};
 
 use crate::FlowTo;
 use crate::adds::{Near, Surroundings, append_flows};
@@ -35,6 +35,22 @@ impl LevelFlows {
         ensures { result.now ≡ flows_at self.now i }
     {
         &self.flows[self.bounds[i]..self.bounds[i + 1]]
+    }
+
+    /// The flows of some of the patches, by their numbers, one patch after another. `NoMemory` is the only refusal.
+    pub fn pick(&self, alloc: Global, numbers: &[u32]) -> Result<LevelFlows, NoMemory>
+        requires there { All (HasFlowsAt self.now) numbers.now }
+        requires few { length numbers.now < 2 ^ 32 }
+        ensures { IfOk result (AreFlowsPicked self.now numbers.now) }
+    {
+        let mut flows = Vec::new(alloc);
+        let mut bounds = Vec::with_capacity(alloc, numbers.len() + 1)?;
+        bounds.push(0)?;
+        for i in 0..numbers.len() {
+            flows.extend_from_slice(self.of(numbers[i] as usize))?;
+            bounds.push(flows.len())?;
+        }
+        Ok(LevelFlows { flows, bounds })
     }
 }
 
