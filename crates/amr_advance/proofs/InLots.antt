@@ -4,10 +4,10 @@ use Rattle.std.proofs.Common.{◌≡◌, ◌∙◌, ℕ, suc, ◌+◌, ◌*◌, 
 use Rattle.std.specs.Prelude.{◌==◌, if◌then◌else◌, unsigned_abs}
 use Rattle.std.specs.List.{All, AllZip, Contains}
 use Rattle.std.proofs.lemmas.List.{get_or-map, length-map}
-use Rattle.std.proofs.lemmas.List.Elements.{AllZip-get_or, length_all_zip, All-same}
+use Rattle.std.proofs.lemmas.List.Elements.{AllZip-get_or, length_all_zip}
 use Rattle.amr_box.specs.declared.Face.{Face}
 use Rattle.amr_box.specs.Cells.{Extent, width}
-use Rattle.amr_def.specs.Domain.{domain, Domain}
+use Rattle.amr_def.specs.Domain.{domain}
 use Rattle.amr_def.specs.State.{Masses}
 use Rattle.amr_def.specs.Value.{value_at}
 use Rattle.amr_def.specs.Flux.{Fluxes, flux_at}
@@ -45,7 +45,6 @@ use Rattle.amr_advance.specs.Steps.{MayStepLevel, AreFramed}
 use Rattle.amr_advance.proofs.RunLists.{run_is, total_run_most}
 use Rattle.amr_advance.proofs.OnePatch as OnePatch
 use Rattle.amr_ghost.specs.Plans.{IsSpan, PlansFrames}
-use Rattle.amr_ghost.specs.declared.plan.FramePlan.{FramePlan}
 use Rattle.amr_advance.proofs.FilledFrames.{still_filled, spans_of}
 use Rattle.amr_layout.proofs.Among.{inside_among}
 

@@ -2,6 +2,7 @@ pub mod Correction
 pub mod Crews
 pub mod Cuts
 pub mod Handed
+pub mod InLots
 pub mod KeptLayouts
 pub mod Lots
 pub mod Outer

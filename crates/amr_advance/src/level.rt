@@ -1,8 +1,8 @@
 //! The step of a level's patches by its lots.
 
-ghost use Rattle.std.specs.Prelude.{◌≡◌, ◌*◌, ◌<◌, ◌≤◌, ◌^◌, ℕ, [], List, true, false, IfOk, OnOk, OnErr, length, map, slice_index_or, vec_capacity};
+ghost use Rattle.std.specs.Prelude.{◌≡◌, ◌*◌, ◌<◌, ◌≤◌, ◌^◌, ℕ, [], Bool, List, true, false, IfOk, OnOk, OnErr, length, map, slice_index_or, vec_capacity};
 ghost use Rattle.std.specs.List.{All, AllZip};
-ghost use Rattle.std.specs.Global.{Box as boxed};
+ghost use Rattle.std.specs.Global.{Box as boxed, Vec};
 ghost use Rattle.amr_lots.specs.Ready.{CanStep};
 ghost use Rattle.amr_lots.specs.Runs.{KeepAllButEdges, run};
 ghost use Rattle.amr_lots.specs.Duties.{HasSent, MaySend};
@@ -15,6 +15,11 @@ ghost use Rattle.amr_advance.specs.Crews.{MayRun};
 ghost use Rattle.amr_advance.specs.KeptLayouts.{ServesLevel};
 ghost use Rattle.amr_advance.specs.Lots.{AreLots, AreLotsOf, is_one};
 ghost use Rattle.amr_advance.specs.Handed.{HaveBeenHanded};
+ghost use Rattle.amr_advance.specs.InLots.{StandInLots};
+ghost use Rattle.amr_advance.specs.declared.level.StepInput.{StepInput as input};
+ghost use Rattle.amr_advance.specs.declared.lots.Lots.{Lots as several};
+ghost use Rattle.amr_patch.specs.declared.patches.Patch.{Patch as patch};
+ghost use Rattle.amr_register.specs.declared.edges.EdgeCell.{EdgeCell as edge};
 ghost use Rattle.amr_advance.specs.Phases.{HasAsMany, HaveMadeStep, IsOpened};
 ghost use Rattle.amr_advance.specs.Registers.{AreEdgesFor};
 ghost use Rattle.amr_advance.specs.Steps.{CanMakeStep, HasMadeStep, LotsMadeStep, HaveSettled, MayMakeStep, MayStepLevel, around_of, coarser_masses};
@@ -213,6 +218,19 @@ fn run_in_lots<R: Threads + Wait + Sync, G: Gate + Sync>(
     }
 }
 
+/// Takes patches and lists of register cells back from several lots, to which they were handed for a step, whether it was made or not.
+pub fn take_from_lots(patches: &mut [Patch], edges: &mut [Vec<EdgeCell>], lots: &mut Lots)
+    requires { (g : input) × (was_made : Bool) × (ps : List patch) × (es : List (Vec edge)) × (t : several)
+        × StandInLots g was_made ps es t patches.old edges.old lots.old }
+    ensures made { (g : input) (ps : List patch) (es : List (Vec edge)) (t : several) → StandInLots g true ps es t patches.old edges.old lots.old
+        → LotsMadeStep (around_of g ps) (coarser_masses g) patches.new (lists_of es) (lists_of edges.new) t lots.new }
+    ensures unmade { (g : input) (ps : List patch) (es : List (Vec edge)) (t : several) → StandInLots g false ps es t patches.old edges.old lots.old
+        → (patches.new ≡ ps) × SameEdges (lists_of es) (lists_of edges.new) }
+{
+    exchange_lists(edges, &mut lots.lots, lots.each);
+    exchange_runs(patches, &mut lots.lots, lots.each);
+}
+
 /// Makes a step of the patches of a level by several lots, as a phase of a board, and takes the patches and the lists of register cells back.
 fn step_in_lots<R: Threads + Wait + Sync, G: Gate + Sync>(
     workers: &mut Workers<'_, R, G>,
@@ -233,8 +251,7 @@ fn step_in_lots<R: Threads + Wait + Sync, G: Gate + Sync>(
     ensures same_edges { OnErr result (SameEdges (lists_of edges.old) (lists_of edges.new)) }
 {
     let run = run_in_lots(workers, given, patches, edges, lots);
-    exchange_lists(edges, &mut lots.lots, lots.each);
-    exchange_runs(patches, &mut lots.lots, lots.each);
+    take_from_lots(patches, edges, lots);
     run
 }
 

@@ -1,8 +1,7 @@
-use Rattle.std.proofs.Common.{◌≡◌, sym, subst, refl}
+use Rattle.std.proofs.Common.{sym, subst, refl}
 use Rattle.amr_def.specs.Domain.{domain}
 use Rattle.amr_layout.specs.Surroundings.{Around}
 use Rattle.amr_advance.specs.Lots.{AreLots, PlansUnlessFilled}
-use Rattle.amr_advance.specs.Steps.{all_around, around_of}
 use Rattle.amr_advance.proofs.AllPatches.{around_is}
 use Rattle.amr_advance.proofs.kept_layout.lay_out_anew.Goals as goal
 

@@ -1,12 +1,11 @@
 use Rattle.amr_patch.specs.Patches.{in_patches}
 use Rattle.amr_layout.specs.Arounds.{around_of}
 use Rattle.std.proofs.Common.{◌≡◌, ◌-◌, true, pos, ◌+ℤ◌, ◌≤ℤ◌, sym, ap, subst, ◌∙◌, arith}
-use Rattle.std.specs.Option.{option_copied}
 use Rattle.std.proofs.lemmas.Int.{ints}
 use Rattle.amr_box.specs.Cells.{holds}
 use Rattle.amr_def.specs.Domain.{Domain, domain, home_cell, in_domain}
 use Rattle.amr_patch.proofs.Rows.{inside}
-use Rattle.amr_layout.specs.Surroundings.{IsNearFace, around, outside}
+use Rattle.amr_layout.specs.Surroundings.{IsNearFace, outside}
 use Rattle.amr_layout.proofs.Edges.{edge_near}
 use Rattle.amr_layout.proofs.AlongSides.{of_patch, x_beside, x_stretch, x_within, y_beside, y_stretch, y_within}
 use Rattle.amr_layout.proofs.stretches.more_beside.Goals as goal
