@@ -1,7 +1,9 @@
 -- Pieces in slots, as lists.
-use Rattle.std.proofs.Common.{◌≡◌, zero, suc, ◌<◌, List, [], ◌∷◌, ◌++◌, length, map, reverse, take, Some, None, refl, sym, ap, ◌∙◌, arith}
+use Rattle.std.proofs.Common.{◌≡◌, ℕ, zero, suc, ◌<◌, List, [], ◌∷◌, ◌++◌, length, map, reverse, take, Some, None, refl, sym, ap, ◌∙◌, arith}
 use Rattle.std.specs.Prelude.{Option, All, IsSome}
 use mathlib.Core.List.{reverse_aux}
+use mathlib.Core.Option.{some, some-injective}
+use lib.ListN.{get_elem?}
 
 -- a map and a reversal may change places
 pub reverse_map : {X Y : Type 0} (f : X → Y) (xs : List X) → map f (reverse xs) ≡ reverse (map f xs)
@@ -36,3 +38,12 @@ module _ {P : Type 0} where
   all_full [] k d lt = absurd (omega arith)
   all_full (x ∷ xs) zero d lt = refl
   all_full (x ∷ xs) (suc k) d lt = all_full xs k d (let r : suc k < suc (length (map Some xs)) = lt in omega arith)
+
+  -- slots that hold these pieces, each at its place, and no more
+  pub slots_are : (os : List (Option P)) (xs : List P) → length os ≡ length xs → ((t : ℕ) (x : P) → get_elem? xs t ≡ some x → get_elem? os t ≡ some (Some x)) → os ≡ map Some xs
+  slots_are [] [] count each = refl
+  slots_are [] (x ∷ xs) count each = absurd (omega arith)
+  slots_are (o ∷ os) [] count each = absurd (omega arith)
+  slots_are (o ∷ os) (x ∷ xs) count each =
+      let first : o ≡ Some x = some-injective o (Some x) (each 0 x refl) in
+      let others : os ≡ map Some xs = slots_are os xs (omega arith) (λ t y e. each (suc t) y e) in ap (λ y. y ∷ os) first ∙ ap (λ l. Some x ∷ l) others

@@ -7,4 +7,5 @@ pub mod Rule
 pub mod Steps
 pub mod BoardOf
 pub mod Ended
+pub mod LastState
 pub mod MakeFault

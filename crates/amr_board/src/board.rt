@@ -1,12 +1,13 @@
 //! The board: word 0 counts the draws, then come the words of the places, then the registers. Slot t holds the piece of
 //! task t while it is at home.
-ghost use Rattle.std.specs.Prelude.{◌≡◌, ℕ, ◌+◌, ◌<◌, ◌≤◌, ◌^◌, List, IfOk, IfErr, IfSome, MatchOption, IsSome, true, false, length, Contains};
+ghost use Rattle.std.specs.Prelude.{◌≡◌, ℕ, ◌+◌, ◌<◌, ◌≤◌, ◌^◌, List, IfOk, IfErr, IfSome, MatchOption, IsSome, Some, true, false, [], map, length, Contains};
 ghost use Rattle.amr_phase.specs.Plans.{IsPlan, puts_of, adds_of, planned_total, planned_face};
 ghost use Rattle.amr_phase.specs.Machine.{word_of};
 ghost use Rattle.amr_board.specs.Piece.{plan_of, AreNumbered};
 ghost use Rattle.amr_board.specs.Views.{first_view, current, IsHolding, HoldsNone, IsNextPut, IsNextAdd, drawn, gone, taking};
 ghost use Rattle.amr_board.specs.Views.{put_done, add_done, looked, giving, keeps_half, other_half, joined};
 ghost use Rattle.amr_board.specs.Ended.{total_of, face_of};
+ghost use Rattle.amr_board.specs.LastState.{IsEndOf};
 ghost use mathlib.Core.Option.{some};
 ghost use lib.ListN.{get_elem?};
 
@@ -254,6 +255,29 @@ impl<P: Piece> Board<P> {
         ensures totals { (w : ℕ) → w < self.plan.words → total_of result w ≡ planned_total self.plan w }
         ensures faces { (p : ℕ) → p < self.plan.places → face_of result p ≡ planned_face self.plan p }
         ensures pieces { (t : ℕ) (p : P) → get_elem? self.pieces t ≡ some p → (y : P) × P.becomes p y × (get_elem? result.pieces t ≡ some (Some y)) }
+    {
+        self.end(seat)
+    }
+
+    /// Gives up a board of which no task was drawn. The seat is the only one left. All pieces are there, as they were
+    /// handed in and in their order, and the words are as at the start. (used where of several boards, one for each
+    /// rank, a later one gets no memory)
+    pub fn dismiss(self, seat: Seat<P>) -> Ended<P>
+        requires seat { IsSeatOf self seat }
+        requires undrawn { (view seat).tasks ≡ [] }
+        requires alone { (view seat).share ≡ 2 ^ 32 }
+        ensures shape { (result.places ≡ self.plan.places) × (result.registers ≡ self.plan.words) }
+        ensures totals { (w : ℕ) → w < self.plan.words → total_of result w ≡ 0 }
+        ensures faces { (p : ℕ) → p < self.plan.places → face_of result p ≡ 0 }
+        ensures pieces { result.pieces ≡ map Some self.pieces }
+    {
+        self.end(seat)
+    }
+
+    // Closes the table with the seat.
+    fn end(self, seat: Seat<P>) -> Ended<P>
+        requires seat { IsSeatOf self seat }
+        ensures { IsEndOf P.becomes self seat result }
     {
         let Board {
             table,
