@@ -15,7 +15,7 @@ ghost use Rattle.amr_advance.specs.Crews.{MayRun};
 ghost use Rattle.amr_advance.specs.KeptLayouts.{ServesLevel};
 ghost use Rattle.amr_advance.specs.Lots.{AreLots, AreLotsOf, is_one};
 ghost use Rattle.amr_advance.specs.Handed.{HaveBeenHanded};
-ghost use Rattle.amr_advance.specs.InLots.{StandInLots};
+ghost use Rattle.amr_advance.specs.InLots.{IsStepOpened, StandInLots};
 ghost use Rattle.amr_advance.specs.declared.level.StepInput.{StepInput as input};
 ghost use Rattle.amr_advance.specs.declared.lots.Lots.{Lots as several};
 ghost use Rattle.amr_patch.specs.declared.patches.Patch.{Patch as patch};
@@ -188,6 +188,24 @@ pub fn open_step<R: Threads + Wait + Sync, G: Gate + Sync>(
     open_lots(phase_of(given, Duty::Step), lots.shape, &mut lots.lots)
 }
 
+/// Has workers make a step that was opened, by all tasks of its board. The lots come back into their list, with what they were handed.
+pub fn run_opened<R: Threads + Wait + Sync, G: Gate + Sync>(
+    workers: &mut Workers<'_, R, G>,
+    given: StepInput<'_>,
+    board: Board<Work>,
+    seat: Seat<Work>,
+    lots: &mut Lots,
+)
+    requires opened { (ps : List patch) × (es : List (Vec edge)) × (t : several) × (qs : List patch) × (ds : List (Vec edge))
+        × IsStepOpened given ps es t qs ds lots.old board seat }
+    requires crew { MayRun G.admits given.problem.now (length board.pieces) workers.old }
+    ensures workers { workers.new ≡ workers.old }
+    ensures run { (ps : List patch) (es : List (Vec edge)) (t : several) (qs : List patch) (ds : List (Vec edge))
+        → IsStepOpened given.entry ps es t qs ds lots.old board seat → StandInLots given.entry true ps es t qs ds lots.new }
+{
+    run_step(workers, phase_of(given, Duty::Step), board, seat, lots);
+}
+
 /// Has several lots make the step of a level, as a phase of a board: of the patches and the lists of register cells that they are handed, and
 /// keep. If allocation fails these are as they were.
 fn run_in_lots<R: Threads + Wait + Sync, G: Gate + Sync>(
@@ -211,7 +229,7 @@ fn run_in_lots<R: Threads + Wait + Sync, G: Gate + Sync>(
 {
     match open_step(workers, given, patches, edges, lots) {
         Ok((board, seat)) => {
-            run_step(workers, phase_of(given, Duty::Step), board, seat, lots);
+            run_opened(workers, given, board, seat, lots);
             Ok(())
         }
         Err(NoMemory) => Err(NoMemory),
