@@ -206,9 +206,9 @@ fn drive_meshes<R: Threads + Wait + Sync, G: Gate + Sync>(
 }
 
 /// Makes the steps of all species up to step `target`. Before a step all are regridded together, where that is due: at each step above 0
-/// that is a multiple of `regrid_int`. Until the next one each goes by itself, and all the way where there is one level alone. The workers are shared out among the species, who go side by
-/// side; where there are fewer workers than species, some go in turn. One species alone goes as [`drive`] has it go. The outcome is the
-/// same for any number of workers, whoever draws which task.
+/// that is a multiple of `regrid_int`. Until the next one each goes by itself, and all the way where there is one level alone. The
+/// workers are shared out among the species, who go side by side; where there are fewer workers than species, some go in turn. One
+/// species alone goes as [`drive`] has it go. The outcome is the same for any number of workers, whoever draws which task.
 ///
 /// `NoMemory` is the only refusal. After it the flock is spent: it is only dropped, and nothing is promised of it. The crew has one rank,
 /// and from 1 to 64 workers. The call joins its workers, and keeps this promise if it returns.
