@@ -1,6 +1,6 @@
 //! Workers on a board of five tasks.
 
-ghost use Rattle.std.specs.Prelude.{◌≡◌, ◌<◌, ◌≤◌, [], ◌∷◌, false, IfOk, length};
+ghost use Rattle.std.specs.Prelude.{◌≡◌, ◌<◌, ◌≤◌, [], ◌∷◌, false, IfOk, map, length};
 ghost use Rattle.amr_board.specs.Views.{first_view};
 ghost use Rattle.amr_board.specs.BoardOf.{IsSeatOf, view};
 
@@ -123,9 +123,7 @@ impl Job<Counted> for RollCall {
 }
 
 fn five_pieces(alloc: Global) -> Result<Vec<Counted>, AllocError>
-    ensures { IfOk result (λ v. v.items
-        ≡ record { task = 0; done = false } ∷ record { task = 1; done = false } ∷ record { task = 2; done = false } ∷ record { task = 3; done = false }
-        ∷ record { task = 4; done = false } ∷ []) }
+    ensures { IfOk result (λ v. v.items ≡ map (λ t. record { task = t; done = false }) (0 ∷ 1 ∷ 2 ∷ 3 ∷ 4 ∷ [])) }
 {
     let done = false;
     let mut pieces = Vec::new(alloc);
@@ -143,6 +141,7 @@ pub(crate) fn opened(
 ) -> Result<(Board<Counted>, Seat<Counted>), AllocError>
     ensures seat { IfOk result (λ r. IsSeatOf r.0 r.1 × (view r.1 ≡ first_view r.0.plan r.0.pieces)) }
     ensures shape { IfOk result (λ r. (r.0.plan.words ≡ 1) × (length r.0.plan.tasks ≡ 5)) }
+    ensures pieces { IfOk result (λ r. r.0.pieces ≡ map (λ t. record { task = t; done = false }) (0 ∷ 1 ∷ 2 ∷ 3 ∷ 4 ∷ [])) }
 {
     let shape = Shape {
         places: 5,
@@ -187,5 +186,18 @@ fn second_task_first(rt: HostRuntime) -> Result<(), Fail> {
     let last = run_phase(&rt, &board, seat, &RollCall::new(), &gate, 2);
     check(&rt, board.close(last));
     assert!(rt; gate.has_held());
+    Ok(())
+}
+
+/// A board of which nobody drew a task has all pieces, each in its slot, and empty words.
+#[test]
+fn pieces_come_back_undrawn(rt: HostRuntime) -> Result<(), Fail> {
+    let (board, seat) = opened(&rt, rt.alloc())?;
+    let mut ended = board.dismiss(seat);
+    assert!(rt; ended.total(0) == 0);
+    let first = ended.hand(0);
+    let last = ended.hand(4);
+    assert!(rt; first.task == 0 && !first.done);
+    assert!(rt; last.task == 4 && !last.done);
     Ok(())
 }
