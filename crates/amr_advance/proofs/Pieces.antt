@@ -1,7 +1,7 @@
 -- The pieces of lots, and the lots of pieces.
 use Rattle.std.proofs.Common.{◌≡◌, ◌∙◌, ℕ, zero, suc, ◌+◌, ◌<◌, List, [], ◌∷◌, ◌++◌, length, Option, Some, None, get_or, map, set, refl, sym, ap, subst, arith}
 use lib.ListN.{get_elem?}
-use mathlib.Core.Option.{some-injective}
+use mathlib.Core.Option.{some, some-injective}
 use Rattle.std.specs.Global.{Box}
 use Rattle.std.proofs.lemmas.List.{ext_get_or, get_or-map, get_or_append_left, get_or_push, length-map, length_push}
 use Rattle.amr_def.specs.declared.problem.Problem.{Problem}
@@ -9,6 +9,9 @@ use Rattle.amr_board.specs.declared.board.Shape.{Shape}
 use Rattle.amr_board.specs.Ended.{EndedOf}
 use Rattle.amr_board.specs.Piece.{AreNumbered}
 use Rattle.amr_board.proofs.Sums.{got, in_range_at}
+use Rattle.amr_phase.specs.declared.plan.Task.{Task}
+use Rattle.amr_phase.specs.Plans.{PlanOf}
+use Rattle.amr_lots.specs.Works.{adds_of_work, puts_of_work}
 use Rattle.amr_lots.specs.declared.lot.StepBasis.{StepBasis}
 use Rattle.amr_lots.specs.declared.lot.Duty.{Duty}
 use Rattle.amr_lots.specs.declared.lot.Lot.{Lot}
@@ -48,7 +51,23 @@ module _ (b : StepBasis) (l : ℕ) (duty : Duty) where
       (λ k lt. let below : k < length (w ∷ ws) = omega (arith, lt, length-map (w ∷ ws) (λ (v : Work). v.lot)) in
       get_or-map (λ (v : Work). v.lot) (w ∷ ws) k w x below ∙ (h.each k x w (omega (arith, below, h.count))).of_lot)
 
+-- ---- the tasks of a phase
+
+task_of : Work → Task
+task_of w = record { puts = puts_of_work w; adds = adds_of_work w }
+
+-- as many tasks as pieces
+pub tasks : (shape : Shape) (ws : List Work) (plan : PlanOf) → plan ≡ planned shape ws → length plan.tasks ≡ length ws
+unfolding task_of
+tasks shape ws plan is = ap (λ (q : PlanOf). length q.tasks) is ∙ length-map ws task_of
+
 -- ---- a closed board
+
+-- each piece of a board that was given up
+pub undone_piece : (ws : List Work) (t : ℕ) (w : Work) → t < length ws → get_elem? (map Some ws) t ≡ some (Some (get_or ws t w))
+undone_piece [] t w lt = absurd (omega (arith, lt))
+undone_piece (v ∷ ws) zero w lt = refl
+undone_piece (v ∷ ws) (suc t) w lt = undone_piece ws t w (omega (arith, lt))
 
 pub one_piece : (o : EndedOf Work) (t : ℕ) (w v : Work) → IsPieceOf o t w → IsPieceOf o t v → w ≡ v
 one_piece o t w v a b = ap from (some-injective (Some w) (Some v) (sym a ∙ b))

@@ -28,7 +28,7 @@ use crate::crew::Workers;
 use crate::kept_layout::KeptLayout;
 use crate::lots::{Lots, is_one};
 use crate::outer::{ready_outer, take_back};
-use crate::phases::{PhaseInput, open_lots, run_step, serve_lots};
+use crate::phases::{PhaseInput, give_back, open_lots, run_step, serve_lots};
 use amr_board::{Board, Seat};
 use amr_box::Cell;
 use amr_causes::NoMemory;
@@ -234,6 +234,16 @@ fn run_in_lots<R: Threads + Wait + Sync, G: Gate + Sync>(
         }
         Err(NoMemory) => Err(NoMemory),
     }
+}
+
+/// Gives up a step that was opened, of which no task was drawn. The lots come back into their list, with what they were handed.
+pub fn give_up(board: Board<Work>, seat: Seat<Work>, lots: &mut Lots)
+    requires { (g : input) × (ps : List patch) × (es : List (Vec edge)) × (t : several) × (qs : List patch) × (ds : List (Vec edge))
+        × IsStepOpened g ps es t qs ds lots.old board seat }
+    ensures { (g : input) (ps : List patch) (es : List (Vec edge)) (t : several) (qs : List patch) (ds : List (Vec edge))
+        → IsStepOpened g ps es t qs ds lots.old board seat → StandInLots g false ps es t qs ds lots.new }
+{
+    give_back(board, seat, &mut lots.lots);
 }
 
 /// Takes patches and lists of register cells back from several lots, to which they were handed for a step, whether it was made or not.

@@ -21,7 +21,7 @@ pub use before::keep_masses;
 pub use correction::correct_kept;
 pub use crew::{Crew, Workers};
 pub use kept_layout::{KeptLayout, Stale, forget, layout_for};
-pub use level::{StepInput, open_step, ready_lots, run_opened, take_from_lots};
+pub use level::{StepInput, give_up, open_step, ready_lots, run_opened, take_from_lots};
 pub use lots::{Lots, is_one, lots_of};
 pub use registers::Regs;
 pub use steps::{advance, advance_kept};

@@ -1,6 +1,6 @@
 //! The phases of a level's lots: the pieces of their tasks, and what comes back.
 
-ghost use Rattle.std.specs.Prelude.{◌≡◌, ◌<◌, ◌≤◌, ◌^◌, ℕ, [], List, length, map, slice_index, vec_capacity, IfOk, OnOk, OnErr};
+ghost use Rattle.std.specs.Prelude.{◌≡◌, ◌<◌, ◌≤◌, ◌^◌, ℕ, [], List, Some, length, map, slice_index, vec_capacity, IfOk, OnOk, OnErr};
 ghost use Rattle.std.specs.List.{All, AllZip};
 ghost use Rattle.std.specs.Option.{option_copied};
 ghost use Rattle.std.specs.Global.{Box as boxed};
@@ -8,7 +8,10 @@ ghost use Rattle.amr_board.specs.declared.board.Shape.{Shape as form};
 ghost use Rattle.amr_board.specs.Ended.{total_of};
 ghost use Rattle.amr_board.specs.MakeFault.{pieces_back};
 ghost use Rattle.amr_lots.specs.Duties.{IsServed, MayServe};
+ghost use Rattle.amr_def.specs.declared.problem.Problem.{Problem as problem};
+ghost use Rattle.amr_lots.specs.declared.lot.Duty.{Duty as duty_of};
 ghost use Rattle.amr_lots.specs.declared.lot.Duty.TheVariants.{Step};
+ghost use Rattle.amr_lots.specs.declared.lot.StepBasis.{StepBasis as ground};
 ghost use Rattle.amr_lots.specs.declared.lot.Lot.{Lot as lot};
 ghost use Rattle.amr_lots.specs.declared.lot.Work.{Work as piece};
 ghost use Rattle.amr_advance.specs.Crews.{MayRun};
@@ -195,6 +198,34 @@ fn run_lots<R: Threads + Wait + Sync, G: Gate + Sync>(
     let mut ended = run_board(workers, phase.alloc, phase.problem, board, seat);
     collect(phase.problem, &mut ended, count, lots);
     ended
+}
+
+/// Takes the lots of so many tasks out of a closed board, whose pieces are as they were handed in, into a list that has room for them.
+fn hand_back(ended: &mut Ended<Work>, count: u32, lots: &mut Vec<Box<Lot>>)
+    requires pieces { (ws : List piece) × (ended.old.pieces ≡ map Some ws) × (length ws ≡ count) }
+    requires empty { lots.old.items ≡ [] }
+    requires room { count ≤ vec_capacity lots.old }
+    ensures { (ws : List piece) → ended.old.pieces ≡ map Some ws → length ws ≡ count → lots.new.items ≡ map (λ w. w.lot) ws }
+{
+    for task in 0..count {
+        lots.push_reserved(lot_of(ended.hand(task)));
+    }
+}
+
+/// Gives up a phase of lots whose board was opened and of which no task was drawn. The lots come back as they were into a list that has room
+/// for them.
+pub(crate) fn give_back(board: Board<Work>, seat: Seat<Work>, lots: &mut Vec<Box<Lot>>)
+    requires opened { (b : ground) × (l : ℕ) × (duty : duty_of) × (p : problem) × (shape : form) × (xs : List (boxed lot))
+        × IsOpened b l duty p shape xs board seat }
+    requires few { length board.pieces < 2 ^ 32 }
+    requires empty { lots.old.items ≡ [] }
+    requires room { length board.pieces ≤ vec_capacity lots.old }
+    ensures { (b : ground) (l : ℕ) (duty : duty_of) (p : problem) (shape : form) (xs : List (boxed lot))
+        → IsOpened b l duty p shape xs board seat → lots.new.items ≡ xs }
+{
+    let count = board.tasks();
+    let mut ended = board.dismiss(seat);
+    hand_back(&mut ended, count, lots);
 }
 
 /// Has workers make the step of lots that is on this board, from its first task on. The lots come back into their list, and the totals become

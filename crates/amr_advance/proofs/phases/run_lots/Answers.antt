@@ -1,31 +1,21 @@
 use Rattle.std.proofs.Common.{◌≡◌, ◌∙◌, ℕ, ◌<◌, List, length, refl, sym, ap, subst, arith}
 use Rattle.std.specs.Global.{Box}
-use Rattle.std.proofs.lemmas.List.{length-map}
 use Rattle.amr_board.specs.declared.board.Shape.{Shape}
 use Rattle.amr_board.specs.declared.view.View.{View}
 use Rattle.amr_board.specs.Ended.{face_of, total_of}
 use Rattle.amr_board.specs.Views.{HoldsNone}
 use Rattle.amr_board.proofs.Sums.{found_at, got, in_range_at}
-use Rattle.amr_phase.specs.declared.plan.Task.{Task}
 use Rattle.amr_phase.specs.Plans.{PlanOf, planned_face, planned_total}
 use Rattle.amr_lots.specs.declared.lot.Lot.{Lot}
 use Rattle.amr_lots.specs.declared.lot.Work.{Work}
 use Rattle.amr_lots.specs.Ready.{MayBegin}
-use Rattle.amr_lots.specs.Works.{StandsFor, adds_of_work, puts_of_work}
+use Rattle.amr_lots.specs.Works.{StandsFor}
 use Rattle.amr_advance.specs.Phases.{AreCollected, HasRun, IsOpened, planned}
 use Rattle.amr_advance.proofs.LotCounts.{fewer_tasks}
-use Rattle.amr_advance.proofs.Pieces.{may_collect}
+use Rattle.amr_advance.proofs.Pieces.{tasks, may_collect}
 use Rattle.amr_advance.proofs.phases.run_lots.Given as given
 use Rattle.amr_advance.proofs.phases.run_lots.Goals.{After-run_board-ended}
 use Rattle.amr_advance.proofs.phases.run_lots.Goals as goal
-
-task_of : Work → Task
-task_of w = record { puts = puts_of_work w; adds = adds_of_work w }
-
--- as many tasks as pieces
-tasks : (shape : Shape) (ws : List Work) (plan : PlanOf) → plan ≡ planned shape ws → length plan.tasks ≡ length ws
-unfolding task_of
-tasks shape ws plan is = ap (λ (q : PlanOf). length q.tasks) is ∙ length-map ws task_of
 
 -- what the closed board has, whatever lots it was opened for
 ran : (g : given.Over) (c : After-run_board-ended g) (shape : Shape) (xs : List (Box Lot)) → IsOpened c.args.phase.basis.now c.args.phase.level c.args.phase.duty c.args.phase.problem.now shape xs c.args.board c.args.seat
