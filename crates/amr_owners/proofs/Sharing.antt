@@ -1,6 +1,5 @@
 -- Shares of tasks are owners of them.
-use Rattle.std.proofs.Common.{◌≡◌, ℕ, List, length, map, subst}
-use Rattle.std.proofs.lemmas.List.{length-map}
+use Rattle.std.proofs.Common.{◌≡◌, ℕ, List, length, subst}
 use Rattle.amr_balance.specs.Shares.{IsShare}
 use Rattle.amr_owners.specs.Owners.{AreOwners}
 

@@ -1,7 +1,6 @@
 -- Patches of a level owned by ranks: each by one rank, and those of a rank in the level's order (list scheduling; Graham 1966).
 use Rattle.std.specs.Prelude.{◌≡◌, ◌≢◌, ℕ, ◌*◌, ◌<◌, List, [], length, map, slice_index, slice_index_or}
-use Rattle.std.specs.Global.{Vec}
-use Rattle.amr_box.specs.Cells.{Extent, height, width}
+use Rattle.amr_box.specs.Cells.{height, width}
 use Rattle.amr_balance.specs.Shares.{Owner, tasks_of}
 use Rattle.amr_patch.specs.declared.patches.Patch.{Patch}
 use Rattle.amr_patch.specs.Patches.{box}

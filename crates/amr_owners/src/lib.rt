@@ -2,10 +2,13 @@
 //!
 //! - [`make`]: which patches each rank owns, by shares of their areas.
 //! - [`trade`]: items exchanged with the list of one owner.
+//! - [`of_all_owners`]: laws.
 #![tactic(auto)]
 
 mod exchange;
+mod laws;
 mod owners;
 
 pub use exchange::trade;
+pub use laws::of_all_owners;
 pub use owners::make;
