@@ -1,3 +1,4 @@
 mod Members
+mod Order
 mod Sharing
 mod Trading

@@ -2,7 +2,8 @@
 use Rattle.std.specs.Prelude.{◌≡◌, ℕ, ◌<◌, List, [], length, slice_index_or, Contains}
 use Rattle.std.specs.List.{All}
 use Rattle.amr_patch.specs.declared.patches.Patch.{Patch}
-use Rattle.amr_owners.specs.Owners.{AreOwners, owned}
+use Rattle.amr_patch.specs.Patches.{ArePatchesApart}
+use Rattle.amr_owners.specs.Owners.{AreOwners, Rises, owned}
 
 -- each number in the list of a rank is below the count, and its rank is that rank: so no number is in the lists of two
 abbrev pub AreOfRank : Type 0
@@ -15,3 +16,19 @@ abbrev pub AreOfLevel : Type 0
 AreOfLevel =
     (numbers : List (List ℕ)) (ranks : ℕ) (ps : List Patch) (p : Patch) → AreOwners numbers ranks (length ps) → (r : ℕ) → r < ranks
     → All (Contains ps) (owned p ps (slice_index_or numbers r []))
+
+-- each number below the count is in the list of its rank
+abbrev pub AreEachOwned : Type 0
+AreEachOwned =
+    (numbers : List (List ℕ)) (ranks count : ℕ) (h : AreOwners numbers ranks count) (n : ℕ) → n < count
+    → Contains (slice_index_or numbers (h.rank_of n) []) n
+
+-- the numbers in the list of a rank rise
+abbrev pub AreInOrder : Type 0
+AreInOrder = (numbers : List (List ℕ)) (ranks count : ℕ) → AreOwners numbers ranks count → (r : ℕ) → r < ranks → Rises (slice_index_or numbers r [])
+
+-- no cell is in two patches of a rank where none is in two of the level
+abbrev pub AreApart : Type 0
+AreApart =
+    (numbers : List (List ℕ)) (ranks : ℕ) (ps : List Patch) (p : Patch) → AreOwners numbers ranks (length ps) → (r : ℕ) → r < ranks
+    → ArePatchesApart ps → ArePatchesApart (owned p ps (slice_index_or numbers r []))

@@ -1,9 +1,12 @@
 //! Laws of all owners.
-ghost use Rattle.amr_owners.specs.Laws.{AreOfLevel, AreOfRank};
+ghost use Rattle.amr_owners.specs.Laws.{AreApart, AreEachOwned, AreInOrder, AreOfLevel, AreOfRank};
 
 /// What holds of all owners: the numbers in the list of a rank are its, so no number is in two lists, and its patches are of the
 /// level. It does nothing: it stands for its contract.
 pub fn of_all_owners()
     ensures rank { AreOfRank }
     ensures level { AreOfLevel }
+    ensures each { AreEachOwned }
+    ensures order { AreInOrder }
+    ensures apart { AreApart }
 {}

@@ -1,4 +1,5 @@
 use Rattle.amr_owners.proofs.Members.{of_rank, of_level}
+use Rattle.amr_owners.proofs.Order.{apart, each_owned, in_order}
 use Rattle.amr_owners.proofs.laws.of_all_owners.Goals as goal
 
 pub returns-clause-rank : goal.returns-clause-rank
@@ -6,3 +7,12 @@ returns-clause-rank c = of_rank
 
 pub returns-clause-level : goal.returns-clause-level
 returns-clause-level c = of_level
+
+pub returns-clause-each : goal.returns-clause-each
+returns-clause-each c = each_owned
+
+pub returns-clause-order : goal.returns-clause-order
+returns-clause-order c = in_order
+
+pub returns-clause-apart : goal.returns-clause-apart
+returns-clause-apart c = apart
