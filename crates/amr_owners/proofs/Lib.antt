@@ -1,4 +1,7 @@
+mod Exchanging
+pub mod HandedBack
 mod Members
 mod Order
 mod Sharing
+pub mod Totals
 mod Trading

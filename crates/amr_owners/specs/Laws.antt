@@ -3,6 +3,7 @@ use Rattle.std.specs.Prelude.{◌≡◌, ℕ, ◌<◌, List, [], length, slice_i
 use Rattle.std.specs.List.{All}
 use Rattle.amr_patch.specs.declared.patches.Patch.{Patch}
 use Rattle.amr_patch.specs.Patches.{ArePatchesApart}
+use Rattle.amr_phase.specs.Plans.{total}
 use Rattle.amr_owners.specs.Owners.{AreOwners, Rises, owned}
 
 -- each number in the list of a rank is below the count, and its rank is that rank: so no number is in the lists of two
@@ -32,3 +33,9 @@ abbrev pub AreApart : Type 0
 AreApart =
     (numbers : List (List ℕ)) (ranks : ℕ) (ps : List Patch) (p : Patch) → AreOwners numbers ranks (length ps) → (r : ℕ) → r < ranks
     → ArePatchesApart ps → ArePatchesApart (owned p ps (slice_index_or numbers r []))
+
+-- what each rank has of something, added up over the ranks, is what all patches have of it
+abbrev pub AreTogether : Type 0
+AreTogether =
+    (numbers : List (List ℕ)) (ranks : ℕ) (ps : List Patch) (p : Patch) (f : Patch → ℕ) → AreOwners numbers ranks (length ps)
+    → total (λ ns. total f (owned p ps ns)) numbers ≡ total f ps

@@ -1,5 +1,5 @@
 //! Laws of all owners.
-ghost use Rattle.amr_owners.specs.Laws.{AreApart, AreEachOwned, AreInOrder, AreOfLevel, AreOfRank};
+ghost use Rattle.amr_owners.specs.Laws.{AreApart, AreEachOwned, AreInOrder, AreOfLevel, AreOfRank, AreTogether};
 
 /// What holds of all owners: the numbers in the list of a rank are its, so no number is in two lists, and its patches are of the
 /// level. It does nothing: it stands for its contract.
@@ -9,4 +9,5 @@ pub fn of_all_owners()
     ensures each { AreEachOwned }
     ensures order { AreInOrder }
     ensures apart { AreApart }
+    ensures together { AreTogether }
 {}

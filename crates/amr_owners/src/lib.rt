@@ -5,10 +5,10 @@
 //! - [`of_all_owners`]: laws.
 #![tactic(auto)]
 
-mod exchange;
+mod trades;
 mod laws;
 mod owners;
 
-pub use exchange::trade;
+pub use trades::{exchange, trade};
 pub use laws::of_all_owners;
 pub use owners::make;

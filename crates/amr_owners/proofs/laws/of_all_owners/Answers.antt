@@ -1,5 +1,6 @@
 use Rattle.amr_owners.proofs.Members.{of_rank, of_level}
 use Rattle.amr_owners.proofs.Order.{apart, each_owned, in_order}
+use Rattle.amr_owners.proofs.Totals.{together}
 use Rattle.amr_owners.proofs.laws.of_all_owners.Goals as goal
 
 pub returns-clause-rank : goal.returns-clause-rank
@@ -16,3 +17,6 @@ returns-clause-order c = in_order
 
 pub returns-clause-apart : goal.returns-clause-apart
 returns-clause-apart c = apart
+
+pub returns-clause-together : goal.returns-clause-together
+returns-clause-together c = together

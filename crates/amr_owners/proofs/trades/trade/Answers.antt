@@ -2,7 +2,7 @@ use Rattle.std.proofs.Common.{◌<◌, ◌∙◌, length, get_or, arith}
 use Rattle.std.proofs.lemmas.List.{get_or_default}
 use Rattle.std.proofs.lemmas.List.Elements.{All-get_or}
 use Rattle.amr_owners.proofs.Trading.{none_traded, one_traded, all_traded}
-use Rattle.amr_owners.proofs.exchange.trade.Goals as goal
+use Rattle.amr_owners.proofs.trades.trade.Goals as goal
 
 pub loop-k-init : goal.loop-k-init
 loop-k-init g c = none_traded c.args.numbers.now c.args.items.now c.args.list.now
