@@ -1,6 +1,7 @@
 mod Exchanging
 pub mod HandedBack
 mod Members
+mod Noting
 mod Order
 mod Sharing
 pub mod Totals

@@ -1,5 +1,6 @@
 -- Patches of a level owned by ranks: each by one rank, and those of a rank in the level's order (list scheduling; Graham 1966).
 use Rattle.std.specs.Prelude.{◌≡◌, ◌≢◌, ℕ, ◌*◌, ◌<◌, List, [], length, map, slice_index, slice_index_or}
+use Rattle.std.specs.List.{All}
 use Rattle.amr_box.specs.Cells.{height, width}
 use Rattle.amr_balance.specs.Shares.{Owner, tasks_of}
 use Rattle.amr_patch.specs.declared.patches.Patch.{Patch}
@@ -42,3 +43,7 @@ pub record HaveExchanged {X : Type 0} (numbers : List (List ℕ)) (items : List 
   pub list_counts : map length new_lists ≡ map length lists
   pub handed : (r : ℕ) (x : X) → r < length lists → slice_index_or new_lists r [] ≡ owned x items (slice_index_or numbers r [])
   pub back : (r : ℕ) (x : X) → r < length lists → owned x new_items (slice_index_or numbers r []) ≡ slice_index_or lists r []
+
+-- at the place of each number in the list of a rank stands that rank
+abbrev pub AreRanksOf : List (List ℕ) → List ℕ → Type 0
+AreRanksOf numbers ranks = (r : ℕ) → r < length numbers → All (λ n. slice_index ranks n ≡ r) (slice_index_or numbers r [])
