@@ -1,6 +1,6 @@
 -- Items exchanged with the lists of all ranks: what the loop of `exchange` keeps.
 use Rattle.std.proofs.Common.{◌≡◌, ◌≢◌, ℕ, ◌+◌, ◌<◌, ◌≤◌, List, [], length, get_or, set, map, refl, sym, ap, ◌∙◌, arith, below_more}
-use Rattle.std.proofs.lemmas.List.{ext_get_or, length-map, length-set, get_or-map, get_or-set_same, get_or-set_other, map-set, set-get_or, with_items_is}
+use Rattle.std.proofs.lemmas.List.{ext_get_or, length-map, get_or-map, get_or-set_same, get_or-set_other, map-set, set-get_or, with_items_is}
 use Rattle.std.proofs.lemmas.List.Elements.{All-get_or, All-weaker}
 use Rattle.std.specs.Global.{Vec}
 use Rattle.std.specs.List.{All}
@@ -84,7 +84,7 @@ one_exchanged numbers items its new_its lists ls part r owners places there t h 
     let in_ls : r < length ls = omega (arith, there, as_many ls lists h.list_counts) in
     let long_part : length part ≡ length ns = t.part_count ∙ ap length (h.left r (omega arith)) ∙ long in
     let fresh : (k : ℕ) → k < length ns → (q : ℕ) → q < r → IsNoneOf (get_or numbers q []) (get_or ns k 0) =
-      λ k lt q below. of_two numbers (length lists) (length items) owners q r k (omega arith) there (λ e. omega (arith, e)) lt in
+    λ k lt q below. of_two numbers (length lists) (length items) owners q r k (omega arith) there (λ e. omega (arith, e)) lt in
     record {
       item_count = t.item_count ∙ h.item_count;
       list_counts = as_long_still ls r part t.part_count in_ls ∙ h.list_counts;
@@ -94,8 +94,8 @@ one_exchanged numbers items its new_its lists ls part r owners places there t h 
       left = λ q over. get_or-set_other ls r q part [] (λ e. omega (arith, e)) ∙ h.left q (omega arith);
       back = λ q under. below_more (λ p. (x : _) → get_or lists p [] ≡ owned x new_its (get_or numbers p [])) r
           (λ p lt x. h.back p lt x ∙ is_owned x new_its (get_or numbers p []) (owned x its (get_or numbers p [])) (length-map (get_or numbers p []) (λ n. get_or its n x))
-            (λ k k_there. get_or-map (λ n. get_or its n x) (get_or numbers p []) k 0 x k_there
-              ∙ sym (t.others (get_or (get_or numbers p []) k 0) x (of_two numbers (length lists) (length items) owners r p k there (omega arith) (λ e. omega (arith, e)) k_there))))
+          (λ k k_there. get_or-map (λ n. get_or its n x) (get_or numbers p []) k 0 x k_there
+          ∙ sym (t.others (get_or (get_or numbers p []) k 0) x (of_two numbers (length lists) (length items) owners r p k there (omega arith) (λ e. omega (arith, e)) k_there))))
           (λ x. is_owned x new_its ns (get_or lists r []) long (λ k lt. ap (λ l. get_or l k x) (sym (h.left r (omega arith))) ∙ sym (t.back k x lt))) q (omega arith);
       others = λ n none x. t.others n x (none r (omega arith)) ∙ h.others n (λ q lt. none q (omega arith)) x;
     }

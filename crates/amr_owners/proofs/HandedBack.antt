@@ -24,11 +24,11 @@ pub all_back : {X : Type 0} (R : X → X → Type 0) (numbers : List (List ℕ))
 all_back R numbers xs left ys lists out served back owners many first each second =
     let long : length ys ≡ length xs = second.item_count ∙ first.item_count in
     zip_from R xs ys long (λ n x y lt.
-      let r = owners.rank_of n in
-      let ns = get_or numbers r [] in
-      let there : r < length lists = owners.ranked n lt in
-      let of_rank : AllZip R (owned x xs ns) (owned x ys ns) =
-        subst (λ l. AllZip R l (owned x ys ns)) (first.handed r x there)
-        (subst (AllZip R (get_or out r [])) (sym (second.back r x (omega (arith, there, many)))) (each r there)) in
-      subst (R (get_or xs n x)) (get_or_default ys n x y (omega (arith, lt, long)))
-      (owned_zip R x xs ys ns n (each_owned numbers (length lists) (length xs) owners n lt) of_rank))
+    let r = owners.rank_of n in
+    let ns = get_or numbers r [] in
+    let there : r < length lists = owners.ranked n lt in
+    let of_rank : AllZip R (owned x xs ns) (owned x ys ns) =
+    subst (λ l. AllZip R l (owned x ys ns)) (first.handed r x there)
+    (subst (AllZip R (get_or out r [])) (sym (second.back r x (omega (arith, there, many)))) (each r there)) in
+    subst (R (get_or xs n x)) (get_or_default ys n x y (omega (arith, lt, long)))
+    (owned_zip R x xs ys ns n (each_owned numbers (length lists) (length xs) owners n lt) of_rank))

@@ -1,5 +1,5 @@
 -- Ranks noted at the places of their items: what the loops of `note` and `ranks_of` keep.
-use Rattle.std.proofs.Common.{◌≡◌, ◌≢◌, ◌∙◌, ℕ, ◌+◌, ◌<◌, ◌≤◌, List, [], length, get_or, set, refl, sym, ap, subst, inl, inr, arith, below_more}
+use Rattle.std.proofs.Common.{◌≡◌, ◌≢◌, ◌∙◌, ℕ, ◌+◌, ◌<◌, ◌≤◌, List, [], length, get_or, set, refl, sym, subst, inl, inr, arith, below_more}
 use Rattle.std.proofs.lemmas.Bool.Decides.{eqb_tells}
 use Rattle.std.proofs.lemmas.List.{length-set, get_or_default, get_or-set_same, get_or-set_other}
 use Rattle.std.specs.List.{All}
@@ -49,7 +49,7 @@ one_ranked numbers all r count old new owners there long noted others h = record
   long = long ∙ h.long;
   ranked = λ q under. below_more (λ p. All (λ n. get_or new n 0 ≡ p) (get_or numbers p [])) r
       (λ p lt k d k_there. subst (λ (n : ℕ). get_or new n 0 ≡ p) (get_or_default (get_or numbers p []) k 0 d k_there)
-        (others (get_or (get_or numbers p []) k 0) (of_two numbers all count owners r p k there (omega arith) (λ e. omega (arith, e)) k_there) ∙ h.ranked p lt k 0 k_there))
+      (others (get_or (get_or numbers p []) k 0) (of_two numbers all count owners r p k there (omega arith) (λ e. omega (arith, e)) k_there) ∙ h.ranked p lt k 0 k_there))
       noted q (omega arith);
 }
 

@@ -1,5 +1,5 @@
 -- What the ranks have adds up to what all have.
-use Rattle.std.proofs.Common.{◌≡◌, ◌∙◌, ℕ, zero, suc, ◌+◌, ◌<◌, ◌≤◌, List, [], ◌∷◌, length, get_or, map, take, sum, refl, sym, ap, subst, arith}
+use Rattle.std.proofs.Common.{◌≡◌, ◌∙◌, ℕ, zero, suc, ◌+◌, ◌<◌, List, [], ◌∷◌, length, get_or, map, take, sum, refl, sym, ap, arith}
 use Rattle.std.proofs.lemmas.List.{get_or-map, length-map, take_all}
 use Rattle.std.proofs.lemmas.List.Sums.{sum_by-cons}
 use Rattle.std.proofs.lemmas.List.Elements.{All-tail}
@@ -42,7 +42,7 @@ all_together numbers ranks xs x f h =
     let areas = map f xs in
     let count = length xs in
     let of_rank : (r : ℕ) → r < length numbers → total f (owned x xs (get_or numbers r [])) ≡ load areas h.rank_of count r =
-      λ r lt. of_places f x xs (get_or numbers r []) (within_all numbers ranks count h r (omega (arith, lt, h.lists))) ∙ ap (load_of areas) (h.owned_by r (omega (arith, lt, h.lists))) in
+    λ r lt. of_places f x xs (get_or numbers r []) (within_all numbers ranks count h r (omega (arith, lt, h.lists))) ∙ ap (load_of areas) (h.owned_by r (omega (arith, lt, h.lists))) in
     let loads : sum_to (load areas h.rank_of count) ranks ≡ sum (take count areas) = loads_together areas ranks count h.rank_of h.ranked (omega (arith, length-map xs f)) in
     total_by_places (λ ns. total f (owned x xs ns)) [] numbers
     ∙ same_below (λ r. total f (owned x xs (get_or numbers r []))) (load areas h.rank_of count) (length numbers) of_rank

@@ -14,7 +14,7 @@ note-requires c =
     record {
       within = subst (λ (m : ℕ). All (λ n. n < m) c.deref.result.now) (sym (ap length c.deref_mut.ensures.value ∙ c.loop-rank.invariant.long))
           (subst (All (λ n. n < c.args.count)) (list_is ns r c.index-numbers-rank.result c.index-numbers-rank.is below ∙ sym c.deref.ensures.value)
-            (within_all (lists_in ns) (length ns) c.args.count c.requires.owners r below));
+          (within_all (lists_in ns) (length ns) c.args.count c.requires.owners r below));
     }
 
 pub loop-rank-preserved : goal.loop-rank-preserved
@@ -27,6 +27,6 @@ loop-rank-preserved c =
     let is : get_or (lists_in ns) r [] ≡ c.deref.result.now = list_is ns r c.index-numbers-rank.result c.index-numbers-rank.is below ∙ sym c.deref.ensures.value in
     subst (AreNotedTo (lists_in ns) (r + 1) c.args.count) (sym (put_back v c.deref_mut.result.now new c.deref_mut.ensures.value c.note.ensures.long))
     (one_ranked (lists_in ns) (length ns) r c.args.count v.items new c.requires.owners below (c.note.ensures.long ∙ ap length c.deref_mut.ensures.value)
-      (subst (All (λ n. get_or new n 0 ≡ r)) (sym is) c.note.ensures.noted)
-      (λ n none. c.note.ensures.others n (subst (λ (l : List ℕ). IsNoneOf l n) is none) ∙ ap (λ (l : List ℕ). get_or l n 0) c.deref_mut.ensures.value)
-      c.loop-rank.invariant)
+    (subst (All (λ n. get_or new n 0 ≡ r)) (sym is) c.note.ensures.noted)
+    (λ n none. c.note.ensures.others n (subst (λ (l : List ℕ). IsNoneOf l n) is none) ∙ ap (λ (l : List ℕ). get_or l n 0) c.deref_mut.ensures.value)
+    c.loop-rank.invariant)
