@@ -2,9 +2,10 @@
 use Rattle.std.proofs.Common.{◌≡◌, ◌∙◌, ℕ, ◌<◌, List, [], length, get_or, map, sym, ap, subst, arith}
 use Rattle.std.proofs.lemmas.List.{get_or-map, get_or_default, length-map}
 use Rattle.std.proofs.lemmas.List.Elements.{AllZip-get_or}
-use Rattle.std.specs.Prelude.{Contains}
+use Rattle.std.specs.Prelude.{Contains, IsTrue}
 use Rattle.std.specs.List.{AllZip}
 use Rattle.amr_register.proofs.EdgeLists.{zip_from}
+use Rattle.amr_owners.specs.Laws.{AreServed}
 use Rattle.amr_owners.specs.Owners.{AreOwners, HaveExchanged, owned}
 use Rattle.amr_owners.proofs.Order.{each_owned}
 
@@ -32,3 +33,7 @@ all_back R numbers xs left ys lists out served back owners many first each secon
     (subst (AllZip R (get_or out r [])) (sym (second.back r x (omega (arith, there, many)))) (each r there)) in
     subst (R (get_or xs n x)) (get_or_default ys n x y (omega (arith, lt, long)))
     (owned_zip R x xs ys ns n (each_owned numbers (length lists) (length xs) owners n lt) of_rank))
+
+pub are_served : AreServed
+are_served numbers ps left new_ps lists out served back is_served owners many first each second =
+    all_back (λ a b. IsTrue (is_served a b)) numbers ps left new_ps lists out served back owners many first each second

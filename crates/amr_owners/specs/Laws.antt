@@ -1,10 +1,10 @@
 -- What holds of all owners. (list scheduling; Graham 1966)
-use Rattle.std.specs.Prelude.{◌≡◌, ℕ, ◌<◌, List, [], length, slice_index_or, Contains}
-use Rattle.std.specs.List.{All}
+use Rattle.std.specs.Prelude.{◌≡◌, ℕ, ◌<◌, List, [], length, slice_index_or, Bool, Contains, IsTrue}
+use Rattle.std.specs.List.{All, AllZip}
 use Rattle.amr_patch.specs.declared.patches.Patch.{Patch}
 use Rattle.amr_patch.specs.Patches.{ArePatchesApart}
 use Rattle.amr_phase.specs.Plans.{total}
-use Rattle.amr_owners.specs.Owners.{AreOwners, Rises, owned}
+use Rattle.amr_owners.specs.Owners.{AreOwners, HaveExchanged, Rises, owned}
 
 -- each number in the list of a rank is below the count, and its rank is that rank: so no number is in the lists of two
 abbrev pub AreOfRank : Type 0
@@ -39,3 +39,12 @@ abbrev pub AreTogether : Type 0
 AreTogether =
     (numbers : List (List ℕ)) (ranks : ℕ) (ps : List Patch) (p : Patch) (f : Patch → ℕ) → AreOwners numbers ranks (length ps)
     → total (λ ns. total f (owned p ps ns)) numbers ≡ total f ps
+
+-- where the items are handed to the ranks' lists, each place of each list is served, and they are taken back, each item is served:
+-- no item is lost, served twice or put in another's place
+abbrev pub AreServed : Type 0
+AreServed =
+    (numbers : List (List ℕ)) (ps left new_ps : List Patch) (lists out served back : List (List Patch)) (is_served : Patch → Patch → Bool)
+    → AreOwners numbers (length lists) (length ps) → length served ≡ length lists → HaveExchanged numbers ps lists left out
+    → ((r : ℕ) → r < length lists → AllZip (λ a b. IsTrue (is_served a b)) (slice_index_or out r []) (slice_index_or served r []))
+    → HaveExchanged numbers left served new_ps back → AllZip (λ a b. IsTrue (is_served a b)) ps new_ps

@@ -1,3 +1,4 @@
+use Rattle.amr_owners.proofs.HandedBack.{are_served}
 use Rattle.amr_owners.proofs.Members.{of_rank, of_level}
 use Rattle.amr_owners.proofs.Order.{apart, each_owned, in_order}
 use Rattle.amr_owners.proofs.Totals.{together}
@@ -20,3 +21,6 @@ returns-clause-apart c = apart
 
 pub returns-clause-together : goal.returns-clause-together
 returns-clause-together c = together
+
+pub returns-clause-served : goal.returns-clause-served
+returns-clause-served c = are_served
