@@ -1,13 +1,11 @@
 -- Items exchanged with the lists of all ranks: what the loop of `exchange` keeps.
-use Rattle.std.proofs.Common.{◌≡◌, ◌≢◌, ℕ, ◌+◌, ◌<◌, ◌≤◌, List, [], length, get_or, set, map, refl, sym, ap, ◌∙◌, arith, below_more}
+use Rattle.std.proofs.Common.{◌≡◌, ℕ, ◌+◌, ◌<◌, ◌≤◌, List, [], length, get_or, set, map, refl, sym, ap, ◌∙◌, arith, below_more}
 use Rattle.std.proofs.lemmas.List.{ext_get_or, length-map, get_or-map, get_or-set_same, get_or-set_other, map-set, set-get_or, with_items_is}
-use Rattle.std.proofs.lemmas.List.Elements.{All-get_or, All-weaker}
 use Rattle.std.specs.Global.{Vec}
-use Rattle.std.specs.List.{All}
 use Rattle.std.specs.Vec.{with_items}
 use Rattle.amr_balance.specs.Shares.{lists_in}
 use Rattle.amr_owners.specs.Owners.{AreOwners, HaveTraded, HaveExchanged, IsNoneOf, owned}
-use Rattle.amr_owners.proofs.Members.{IsTaskOf, of_rank}
+use Rattle.amr_owners.proofs.Members.{of_two}
 
 pub list_count : {X : Type 0} (vs : List (Vec X)) → length (lists_in vs) ≡ length vs
 list_count {X} vs = length-map vs (λ (v : Vec X). v.items)
@@ -29,11 +27,13 @@ put_back v lent part is same = with_items_is v part (let e : length lent ≡ len
 pub as_many : {X Y : Type 0} (xs : List (List X)) (ys : List (List Y)) → map length xs ≡ map length ys → length xs ≡ length ys
 as_many xs ys h = sym (length-map xs length) ∙ ap length h ∙ length-map ys length
 
-pub as_long : {X Y : Type 0} (xs : List (List X)) (ys : List (List Y)) (r : ℕ) → map length xs ≡ map length ys → r < length xs → length (get_or xs r []) ≡ length (get_or ys r [])
+pub as_long : {X Y : Type 0} (xs : List (List X)) (ys : List (List Y)) (r : ℕ) → map length xs ≡ map length ys → r < length xs
+    → length (get_or xs r []) ≡ length (get_or ys r [])
 as_long xs ys r h there =
     sym (get_or-map length xs r [] 0 there) ∙ ap (λ ns. get_or ns r 0) h ∙ get_or-map length ys r [] 0 (omega (arith, there, as_many xs ys h))
 
-as_long_still : {X : Type 0} (lists : List (List X)) (r : ℕ) (part : List X) → length part ≡ length (get_or lists r []) → r < length lists → map length (set lists r part) ≡ map length lists
+as_long_still : {X : Type 0} (lists : List (List X)) (r : ℕ) (part : List X) → length part ≡ length (get_or lists r []) → r < length lists
+    → map length (set lists r part) ≡ map length lists
 as_long_still lists r part h there =
     map-set length lists r part ∙ ap (set (map length lists) r) (h ∙ sym (get_or-map length lists r [] 0 there)) ∙ set-get_or (map length lists) r 0
 
@@ -44,19 +44,8 @@ is_owned x xs ns ys long each =
     let f = λ (n : ℕ). get_or xs n x in
     ext_get_or x ys (map f ns) (long ∙ sym (length-map ns f)) (λ k lt. each k (omega (arith, lt, long)) ∙ sym (get_or-map f ns k 0 x (omega (arith, lt, long))))
 
--- the first number is of one rank, the second of another
-pub of_two : (numbers : List (List ℕ)) (ranks count : ℕ) → AreOwners numbers ranks count → (q r k : ℕ) → q < ranks → r < ranks → q ≢ r → k < length (get_or numbers r [])
-    → IsNoneOf (get_or numbers q []) (get_or (get_or numbers r []) k 0)
-of_two numbers ranks count h q r k q_there r_there other k_there j j_there e =
-    let in_q = All-get_or (IsTaskOf h.rank_of q count) (get_or numbers q []) j 0 j_there (of_rank numbers ranks count h q q_there) in
-    let in_r = All-get_or (IsTaskOf h.rank_of r count) (get_or numbers r []) k 0 k_there (of_rank numbers ranks count h r r_there) in
-    other (sym in_q.1 ∙ ap h.rank_of e ∙ in_r.1)
-
-pub within_all : (numbers : List (List ℕ)) (ranks count : ℕ) → AreOwners numbers ranks count → (r : ℕ) → r < ranks → All (λ n. n < count) (get_or numbers r [])
-within_all numbers ranks count h r below =
-    All-weaker (IsTaskOf h.rank_of r count) (λ n. n < count) (λ n is. is.0) (get_or numbers r []) (of_rank numbers ranks count h r below)
-
-pub record HaveExchangedTo {X : Type 0} (numbers : List (List ℕ)) (r : ℕ) (items : List X) (lists : List (List X)) (new_items : List X) (new_lists : List (List X)) : Type 0 where
+pub record HaveExchangedTo {X : Type 0} (numbers : List (List ℕ)) (r : ℕ) (items : List X) (lists : List (List X)) (new_items : List X)
+    (new_lists : List (List X)) : Type 0 where
   pub item_count : length new_items ≡ length items
   pub list_counts : map length new_lists ≡ map length lists
   pub handed : (q : ℕ) → q < r → (x : X) → get_or new_lists q [] ≡ owned x items (get_or numbers q [])

@@ -4,7 +4,7 @@ use Rattle.std.proofs.lemmas.Bool.Decides.{eqb_tells}
 use Rattle.std.proofs.lemmas.List.{length-set, get_or_default, get_or-set_same, get_or-set_other}
 use Rattle.std.specs.List.{All}
 use Rattle.amr_owners.specs.Owners.{AreOwners, AreRanksOf, IsNoneOf}
-use Rattle.amr_owners.proofs.Exchanging.{of_two}
+use Rattle.amr_owners.proofs.Members.{of_two}
 
 pub record IsNotedTo (ns : List ℕ) (k rank : ℕ) (old new : List ℕ) : Type 0 where
   pub long : length new ≡ length old
@@ -14,7 +14,8 @@ pub record IsNotedTo (ns : List ℕ) (k rank : ℕ) (old new : List ℕ) : Type 
 pub none_noted : (ns : List ℕ) (rank : ℕ) (old : List ℕ) → IsNotedTo ns 0 rank old old
 none_noted ns rank old = record { long = refl; noted = λ j h. absurd (omega arith); others = λ n h. refl }
 
-pub one_noted : (ns : List ℕ) (k rank : ℕ) (old new : List ℕ) → get_or ns k 0 < length new → IsNotedTo ns k rank old new → IsNotedTo ns (k + 1) rank old (set new (get_or ns k 0) rank)
+pub one_noted : (ns : List ℕ) (k rank : ℕ) (old new : List ℕ) → get_or ns k 0 < length new → IsNotedTo ns k rank old new
+    → IsNotedTo ns (k + 1) rank old (set new (get_or ns k 0) rank)
 one_noted ns k rank old new there h =
     let n = get_or ns k 0 in
     record {
@@ -31,7 +32,8 @@ one_noted ns k rank old new there h =
 pub all_noted : (ns : List ℕ) (k rank : ℕ) (old new : List ℕ) → length ns ≤ k → IsNotedTo ns k rank old new → All (λ n. get_or new n 0 ≡ rank) ns
 all_noted ns k rank old new low h j d lt = subst (λ (n : ℕ). get_or new n 0 ≡ rank) (get_or_default ns j 0 d lt) (h.noted j (omega arith))
 
-pub others_noted : (ns : List ℕ) (k rank : ℕ) (old new : List ℕ) → k ≤ length ns → IsNotedTo ns k rank old new → (n : ℕ) → IsNoneOf ns n → get_or new n 0 ≡ get_or old n 0
+pub others_noted : (ns : List ℕ) (k rank : ℕ) (old new : List ℕ) → k ≤ length ns → IsNotedTo ns k rank old new
+    → (n : ℕ) → IsNoneOf ns n → get_or new n 0 ≡ get_or old n 0
 others_noted ns k rank old new high h n none = h.others n (λ j lt. none j (omega arith))
 
 -- the ranks below r are noted

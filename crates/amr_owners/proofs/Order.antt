@@ -13,7 +13,7 @@ use Rattle.amr_patch.specs.Patches.{box}
 use Rattle.amr_box.specs.Cells.{holds}
 use Rattle.amr_owners.specs.Owners.{Rises, owned}
 use Rattle.amr_owners.specs.Laws.{AreApart, AreEachOwned, AreInOrder}
-use Rattle.amr_owners.proofs.Members.{IsTaskOf, all_tasks, of_rank}
+use Rattle.amr_owners.proofs.Members.{IsTaskOf, all_tasks, within_all}
 
 rises_push : (ns : List ℕ) (n : ℕ) → Rises ns → All (λ m. m < n) ns → Rises (ns ++ n ∷ [])
 rises_push ns n h below j k jk lt =
@@ -58,4 +58,4 @@ pairs_owned R x xs ns rises below all i j d ij lt =
 pub apart : AreApart
 apart numbers ranks ps p h r below all =
     pairs_owned (λ (a b : Patch). (c : Cell) → IsTrue (holds (box a) c) → IsTrue (holds (box b) c) → ⊥) p ps (get_or numbers r []) (in_order numbers ranks (length ps) h r below)
-    (All-weaker (IsTaskOf h.rank_of r (length ps)) (λ n. n < length ps) (λ n is. is.0) (get_or numbers r []) (of_rank numbers ranks (length ps) h r below)) all
+    (within_all numbers ranks (length ps) h r below) all

@@ -9,7 +9,7 @@ use Rattle.amr_balance.proofs.Loads.{sum_to, loads_together}
 use Rattle.amr_phase.specs.Plans.{total}
 use Rattle.amr_owners.specs.Owners.{AreOwners, owned}
 use Rattle.amr_owners.specs.Laws.{AreTogether}
-use Rattle.amr_owners.proofs.Exchanging.{within_all}
+use Rattle.amr_owners.proofs.Members.{within_all}
 
 sum_is_total : {X : Type 0} (f : X → ℕ) (xs : List X) → sum (map f xs) ≡ total f xs
 sum_is_total f [] = refl

@@ -38,7 +38,8 @@ pub record HaveTraded {X : Type 0} (ns : List ℕ) (items parts new_items new_pa
   pub others : (n : ℕ) (x : X) → IsNoneOf ns n → slice_index_or new_items n x ≡ slice_index_or items n x
 
 -- what each rank owns and what its list has changed places
-pub record HaveExchanged {X : Type 0} (numbers : List (List ℕ)) (items : List X) (lists : List (List X)) (new_items : List X) (new_lists : List (List X)) : Type 0 where
+pub record HaveExchanged {X : Type 0} (numbers : List (List ℕ)) (items : List X) (lists : List (List X)) (new_items : List X)
+    (new_lists : List (List X)) : Type 0 where
   pub item_count : length new_items ≡ length items
   pub list_counts : map length new_lists ≡ map length lists
   pub handed : (r : ℕ) (x : X) → r < length lists → slice_index_or new_lists r [] ≡ owned x items (slice_index_or numbers r [])

@@ -2,7 +2,8 @@ use Rattle.std.proofs.Common.{◌≡◌, ℕ, ◌+◌, ◌<◌, ◌∙◌, List,
 use Rattle.std.specs.List.{All}
 use Rattle.amr_balance.specs.Shares.{lists_in}
 use Rattle.amr_owners.specs.Owners.{IsNoneOf}
-use Rattle.amr_owners.proofs.Exchanging.{list_is, put_back, within_all}
+use Rattle.amr_owners.proofs.Exchanging.{list_is, put_back}
+use Rattle.amr_owners.proofs.Members.{within_all}
 use Rattle.amr_owners.proofs.Noting.{AreNotedTo, one_ranked}
 use Rattle.amr_owners.proofs.ranks.ranks_of.Goals as goal
 

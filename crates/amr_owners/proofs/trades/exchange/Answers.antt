@@ -4,7 +4,8 @@ use Rattle.std.specs.Vec.{with_items}
 use Rattle.amr_balance.specs.Shares.{lists_in}
 use Rattle.amr_owners.specs.Owners.{AreOwners, HaveTraded, Rises}
 use Rattle.amr_owners.proofs.Order.{in_order}
-use Rattle.amr_owners.proofs.Exchanging.{HaveExchangedTo, as_long, list_at, list_count, list_is, list_set, one_exchanged, put_back, within_all}
+use Rattle.amr_owners.proofs.Exchanging.{HaveExchangedTo, as_long, list_at, list_count, list_is, list_set, one_exchanged, put_back}
+use Rattle.amr_owners.proofs.Members.{within_all}
 use Rattle.amr_owners.proofs.trades.exchange.Goals as goal
 
 pub trade-requires-clause-rises : goal.trade-requires-clause-rises
@@ -53,8 +54,12 @@ loop-rank-preserved g c =
     let there : r < length olds = omega (arith, below, c.requires.owners.lists, list_count ns) in
     let inside : r < length vs = omega (arith, there, c.loop-rank.auto.lists) in
     let traded : HaveTraded (get_or (lists_in ns) r []) its (get_or (lists_in vs) r []) new_its part =
-    subst (λ (l : List ℕ). HaveTraded l its (get_or (lists_in vs) r []) new_its part) (c.deref.ensures.value ∙ sym (list_is ns r c.index-numbers-rank.result c.index-numbers-rank.is below))
-    (subst (λ l. HaveTraded c.deref.result.now its l new_its part) (c.deref_mut.ensures.value ∙ sym (list_at vs r c.index-lists-rank.result inside)) c.trade.ensures) in
-    subst (λ ls. HaveExchangedTo (lists_in ns) (r + 1) c.args.items.now (lists_in olds) new_its ls) (sym (list_set vs r (with_items v part) part (put_back v c.deref_mut.result.now part c.deref_mut.ensures.value c.trade.ensures.part_count)))
+    subst (λ (l : List ℕ). HaveTraded l its (get_or (lists_in vs) r []) new_its part)
+    (c.deref.ensures.value ∙ sym (list_is ns r c.index-numbers-rank.result c.index-numbers-rank.is below))
+    (subst (λ l. HaveTraded c.deref.result.now its l new_its part)
+    (c.deref_mut.ensures.value ∙ sym (list_at vs r c.index-lists-rank.result inside)) c.trade.ensures) in
+    subst (λ ls. HaveExchangedTo (lists_in ns) (r + 1) c.args.items.now (lists_in olds) new_its ls)
+    (sym (list_set vs r (with_items v part) part (put_back v c.deref_mut.result.now part c.deref_mut.ensures.value c.trade.ensures.part_count)))
     (one_exchanged (lists_in ns) c.args.items.now its new_its (lists_in olds) (lists_in vs) part r
-    (subst (λ (n : ℕ). AreOwners (lists_in ns) n (length c.args.items.now)) (sym (list_count olds)) c.requires.owners) c.requires.places (omega (arith, there, list_count olds)) traded c.loop-rank.invariant)
+    (subst (λ (n : ℕ). AreOwners (lists_in ns) n (length c.args.items.now)) (sym (list_count olds)) c.requires.owners)
+    c.requires.places (omega (arith, there, list_count olds)) traded c.loop-rank.invariant)
