@@ -1,4 +1,4 @@
 mod Owners
-mod Loads
+pub mod Loads
 mod Balance
 mod SoFar

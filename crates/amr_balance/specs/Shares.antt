@@ -47,6 +47,6 @@ largest (a ∷ areas) = max a (largest areas)
 pub record IsBalanced (areas : List ℕ) (workers : ℕ) (lots : List (List ℕ)) : Type 0 where
   pub at : (w : ℕ) → w < workers → workers * load_of areas (slice_index_or lots w []) ≤ sum areas + (workers - 1) * largest areas
 
--- the numbers in each of several lists
-abbrev pub lists_in : List (Vec ℕ) → List (List ℕ)
+-- what each of several lists has
+abbrev pub lists_in : {X : Type 0} → List (Vec X) → List (List X)
 lists_in vs = map (λ v. v.items) vs
