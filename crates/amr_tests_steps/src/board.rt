@@ -11,7 +11,7 @@ ghost use Rattle.amr_lots.specs.declared.lot.Duty.TheVariants.{Step};
 ghost use Rattle.amr_lots.specs.declared.lot.Lot.{Lot as lot};
 ghost use Rattle.amr_lots.specs.declared.lot.Work.{Work as piece};
 ghost use Rattle.amr_advance.specs.Phases.{IsOpened, IsPieceOf};
-ghost use Rattle.amr_advance.specs.Steps.{MayMakeStep, all_around};
+ghost use Rattle.amr_advance.specs.Steps.{MayMakeStep, all_around, around_of};
 ghost use Rattle.amr_cycle.specs.Cycles.{HasStepToCome};
 
 use crate::cycle::masses_after_a_step;
@@ -54,7 +54,7 @@ fn places_of(
     requires some { 0 < each }
     requires step { MayMakeStep given patches.now }
     requires order { IsOrderOf order patches.now }
-    requires cells { HasRegisterCells (all_around given patches.now) }
+    requires cells { HasRegisterCells (around_of given patches.now) }
 {
     let starts = starts_of(given.alloc, patches)?;
     let level = Surroundings {
@@ -65,6 +65,8 @@ fn places_of(
         starts: &starts,
         cells: given.cells,
         finer: given.finer,
+        filled: given.filled,
+        whole: &given.basis.patches,
     };
     Ok(plan(given.alloc, level, each)?.places)
 }

@@ -32,17 +32,17 @@ ground g c ps =
     λ i. around (sym e.problem i) (sym e.level i) ps (sym e.cells i) (option_copied (sym e.finer i))
 
 -- all of it is worked on
-whole : (g : given.Over) (c : After-first_step-given g) → whole_of c.first_step-given.result ≡ c.deref_mut.result.now
-whole g c = (λ i. (c.first_step-given.ensures.basis i).patches.value.items) ∙ ap (λ v. v.items) c.of-2.ensures ∙ sym c.deref_mut.ensures.value
+whole : (g : given.Over) (c : After-first_step-given g) → whole_of c.first_step-given.result ≡ c.take_patches-patches.result.items
+whole g c = (λ i. (c.first_step-given.ensures.basis i).patches.value.items) ∙ ap (λ v. v.items) c.of-2.ensures
 
-of_all : (g : given.Over) (c : After-first_step-given g) → around c.args.p.now 0 c.deref_mut.result.now [] None ≡ around_of c.first_step-given.result c.deref_mut.result.now
-of_all g c =
+of_all : (g : given.Over) (c : After-first_step-given g) (ps : List Patch) → ps ≡ c.take_patches-patches.result.items → around c.args.p.now 0 ps [] None ≡ around_of c.first_step-given.result ps
+of_all g c ps is =
     let e = c.first_step-given.ensures in
     λ i. record {
       problem = sym e.problem i;
       level = sym e.level i;
-      patches = c.deref_mut.result.now;
-      whole = sym (whole g c) i;
+      patches = ps;
+      whole = (is ∙ sym (whole g c)) i;
       filled = sym e.unfilled i;
       cells = sym e.cells i;
       finer = finer_masses (option_copied (sym e.finer i));
@@ -69,7 +69,7 @@ open_patches-requires-clause-step g c κs within =
     } in
     let e = c.first_step-given.ensures in
     record {
-      level = subst (λ (n : Masses). MayStepLevel (around_of c.first_step-given.result ps) n) (none g at) (subst (λ (s : Around). MayStepLevel s no_masses) (of_all g at) may);
+      level = subst (λ (n : Masses). MayStepLevel (around_of c.first_step-given.result ps) n) (none g at) (subst (λ (s : Around). MayStepLevel s no_masses) (of_all g at ps c.deref_mut.ensures.value) may);
       basis = record {
         problem = (λ i. (e.basis i).problem.value) ∙ c.of.ensures ∙ sym e.problem;
         patches = refl;

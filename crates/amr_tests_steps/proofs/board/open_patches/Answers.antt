@@ -4,7 +4,7 @@ use Rattle.amr_advance.proofs.AllPatches.{around_is, whole_is}
 use Rattle.amr_tests_steps.proofs.board.open_patches.Goals as goal
 
 pub ready_lots-requires-clause-lots : goal.ready_lots-requires-clause-lots
-ready_lots-requires-clause-lots g c κs within =
+ready_lots-requires-clause-lots g c =
     subst (λ s. AreLots s c.in_ok-layout.layout.lots) (sym (around_is c.args.given c.args.patches.now (whole_is c.args.given c.args.patches.now c.requires.step c.requires.unfilled) c.requires.unfilled)) c.in_ok-layout.ensures.layout.laid_out.lots
 
 pub open_step-requires-clause-several : goal.open_step-requires-clause-several
