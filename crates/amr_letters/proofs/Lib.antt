@@ -1,2 +1,4 @@
 pub mod Slots
 pub mod Fills
+pub mod Joined
+pub mod Known

@@ -1,3 +1,5 @@
 pub mod Beside
 pub mod Told
 pub mod Filled
+pub mod Sources
+pub mod Between
