@@ -14,7 +14,7 @@ use Rattle.amr_ranks.specs.Laws.{HasJust}
 use Rattle.amr_ranks.proofs.Sums.{one_if}
 use Rattle.amr_letters.specs.Beside.{beside_count}
 use Rattle.amr_letters.specs.Sources.{Sharing, box_at, ghost_at, source, value_of}
-use Rattle.amr_letters.specs.Between.{KnowsSources, between, frame_cell, is_rank, item_of, letter_between, letters_to, told_at, told_of, told_to}
+use Rattle.amr_letters.specs.Between.{KnowsSources, between, frame_cell, is_rank, item_of, letter_between, letters_for, told_at, told_of, told_to}
 use Rattle.amr_letters.proofs.Joined.{mass_there, no_mass, none_there, one_there}
 
 -- ---- the cells of letters
@@ -133,7 +133,7 @@ module _ (s : Sharing) (to patch slot : ℕ) where
 
 -- ---- at the node
 
-pub knows : (s : Sharing) (ranks rank words : ℕ) (n : NodeOf) → HasJust n words (letters_to s ranks rank) → ((k slot from : ℕ) → source s (ghost_at s k slot) ≡ Some from → from < ranks) → KnowsSources s rank n
+pub knows : (s : Sharing) (ranks rank words : ℕ) (n : NodeOf) → HasJust n words (letters_for s ranks rank) → ((k slot from : ℕ) → source s (ghost_at s k slot) ≡ Some from → from < ranks) → KnowsSources s rank n
 knows s ranks rank words n just below = record {
   told = λ k slot from there own within is. has k slot ∙ value_told s rank k slot ranks from there own within is (below k slot from is);
   untold = λ k slot is. has k slot ∙ nothing_told s rank k slot ranks is;

@@ -2,3 +2,4 @@ pub mod Slots
 pub mod Fills
 pub mod Joined
 pub mod Known
+pub mod Holders

@@ -47,8 +47,8 @@ abbrev pub letter_between : Sharing → ℕ → ℕ → ℕ → LetterOf
 letter_between s ranks to from = record { number = from * ranks + to; to = to; items = map item_of (between s from to) }
 
 -- the letters to a rank, one from each
-abbrev pub letters_to : Sharing → ℕ → ℕ → List LetterOf
-letters_to s ranks to = map (letter_between s ranks to) (range_with_len 0 ranks)
+abbrev pub letters_for : Sharing → ℕ → ℕ → List LetterOf
+letters_for s ranks to = map (letter_between s ranks to) (range_with_len 0 ranks)
 
 -- a node has the value of each ghost cell of this rank's patches that comes from a rank, and of no other cell
 pub record KnowsSources (s : Sharing) (rank : ℕ) (n : NodeOf) : Type 0 where

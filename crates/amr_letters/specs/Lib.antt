@@ -3,3 +3,4 @@ pub mod Told
 pub mod Filled
 pub mod Sources
 pub mod Between
+pub mod Shared

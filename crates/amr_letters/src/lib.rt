@@ -6,9 +6,14 @@
 #![tactic(auto)]
 
 mod beside;
+mod bring;
 mod fill;
+mod items;
 mod laws;
+mod levels;
+mod owned;
 
 pub use beside::{beside_cell, beside_count};
 pub use fill::{fill_frame, fill_frames};
 pub use laws::cells_beside_a_box;
+pub use levels::{OwnedPatches, Shared};

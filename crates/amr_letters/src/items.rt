@@ -1,0 +1,98 @@
+//! The items that each rank tells a rank.
+
+ghost use Rattle.std.specs.Prelude.{◌≡◌, ◌<◌, ◌≤◌, ◌^◌, [], IfOk, OnOk, length};
+ghost use Rattle.std.specs.List.{All, flat_map, range_with_len};
+ghost use Rattle.amr_ranks.specs.declared.item.Item.{Item};
+ghost use Rattle.amr_letters.specs.Sources.{AreOwned, box_at};
+ghost use Rattle.amr_letters.specs.Beside.{beside_count};
+ghost use Rattle.amr_letters.specs.Between.{told_at, told_of};
+ghost use Rattle.amr_letters.specs.Shared.{AreAdded, AreItemsFor, sharing};
+
+use crate::beside::{beside_cell, beside_count};
+use crate::levels::Shared;
+use crate::owned::{Near, told_of};
+use amr_causes::NoMemory;
+use amr_ranks::Item;
+use std::alloc::Global;
+
+/// Adds the ghost cell at a slot of a patch to the list of the rank that its value comes from.
+fn add_slot(
+    s: Shared<'_>,
+    number: u32,
+    slot: u32,
+    near: &mut Near,
+    lists: &mut [Vec<Item>],
+) -> Result<(), NoMemory>
+    requires level { s.level ≤ 4 }
+    requires own { AreOwned (length lists.old) s.own.patches.now s.own.owners.now }
+    requires coarser { AreOwned (length lists.old) s.coarser.patches.now s.coarser.owners.now }
+    requires there { number < length s.own.patches.now }
+    requires inside { slot < beside_count (box_at (sharing s) number) }
+    ensures { OnOk result (AreAdded (λ from. told_at (sharing s.entry) from number slot) lists.old lists.new) }
+{
+    let c = beside_cell(&s.own.patches[number as usize].bx(), slot);
+    if let Some(told) = told_of(s, near, c) {
+        let item = Item::Cell {
+            patch: number,
+            slot,
+            mass: told.mass,
+        };
+        lists[told.from as usize].push(item)?;
+    }
+    Ok(())
+}
+
+/// Adds the ghost cells of a patch, slot by slot.
+fn add_frame(
+    s: Shared<'_>,
+    number: u32,
+    near: &mut Near,
+    lists: &mut [Vec<Item>],
+) -> Result<(), NoMemory>
+    requires level { s.level ≤ 4 }
+    requires own { AreOwned (length lists.old) s.own.patches.now s.own.owners.now }
+    requires coarser { AreOwned (length lists.old) s.coarser.patches.now s.coarser.owners.now }
+    requires there { number < length s.own.patches.now }
+    ensures { OnOk result (AreAdded (λ from. told_of (sharing s.entry) from number) lists.old lists.new) }
+{
+    let count = beside_count(&s.own.patches[number as usize].bx());
+    for slot in 0..count {
+        add_slot(s, number, slot, near, lists)?;
+    }
+    Ok(())
+}
+
+/// An empty list for each rank.
+fn no_items(alloc: Global, ranks: u32) -> Result<Vec<Vec<Item>>, NoMemory>
+    ensures counted { IfOk result (λ v. length v.items ≡ ranks) }
+    ensures empty { IfOk result (λ v. All (λ x. x.items ≡ []) v.items) }
+{
+    let mut lists = Vec::with_capacity(alloc, ranks as usize)?;
+    for _rank in 0..ranks {
+        lists.push(Vec::new(alloc))?;
+    }
+    Ok(lists)
+}
+
+/// What each of so many ranks tells rank `to`, in one pass over its patches.
+pub(crate) fn items_for(
+    alloc: Global,
+    s: Shared<'_>,
+    to: u32,
+    ranks: u32,
+) -> Result<Vec<Vec<Item>>, NoMemory>
+    requires level { s.level ≤ 4 }
+    requires few { length s.own.patches.now ≤ 2 ^ 32 }
+    requires own { AreOwned ranks s.own.patches.now s.own.owners.now }
+    requires coarser { AreOwned ranks s.coarser.patches.now s.coarser.owners.now }
+    ensures { IfOk result (λ v. AreItemsFor (sharing s.entry) ranks to v.items) }
+{
+    let mut lists = no_items(alloc, ranks)?;
+    let mut near = Near { own: 0, coarser: 0 };
+    for k in 0..s.own.patches.len() {
+        if s.own.owners[k] == to {
+            add_frame(s, k as u32, &mut near, lists.as_mut_slice())?;
+        }
+    }
+    Ok(lists)
+}
