@@ -3,3 +3,4 @@ pub mod Fills
 pub mod Joined
 pub mod Known
 pub mod Holders
+pub mod Added

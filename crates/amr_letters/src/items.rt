@@ -1,19 +1,45 @@
 //! The items that each rank tells a rank.
 
-ghost use Rattle.std.specs.Prelude.{◌≡◌, ◌<◌, ◌≤◌, ◌^◌, [], IfOk, OnOk, length};
+ghost use Rattle.std.specs.Prelude.{◌≡◌, ◌==◌, ◌<◌, ◌≤◌, ◌^◌, ◌∷◌, [], IfOk, OnOk, cond, length};
 ghost use Rattle.std.specs.List.{All, flat_map, range_with_len};
 ghost use Rattle.amr_ranks.specs.declared.item.Item.{Item};
-ghost use Rattle.amr_letters.specs.Sources.{AreOwned, box_at};
+ghost use Rattle.amr_letters.specs.Sources.{AreOwned, box_at, ghost_at};
 ghost use Rattle.amr_letters.specs.Beside.{beside_count};
-ghost use Rattle.amr_letters.specs.Between.{told_at, told_of};
+ghost use Rattle.amr_letters.specs.Between.{told_at, told_of, told_to};
 ghost use Rattle.amr_letters.specs.Shared.{AreAdded, AreItemsFor, sharing};
 
 use crate::beside::{beside_cell, beside_count};
 use crate::levels::Shared;
 use crate::owned::{Near, told_of};
+use amr_box::Cell;
 use amr_causes::NoMemory;
 use amr_ranks::Item;
 use std::alloc::Global;
+
+/// Adds a cell to the list of the rank that tells it.
+fn add_cell(
+    lists: &mut [Vec<Item>],
+    from: u32,
+    patch: u32,
+    slot: u32,
+    mass: u64,
+) -> Result<(), NoMemory>
+    requires from { from < length lists.old }
+    requires small { mass < 2 ^ 32 }
+    ensures { OnOk result (AreAdded (λ rank. cond (from == rank) (record { patch = patch; slot = slot; mass = mass } ∷ []) []) lists.old lists.new) }
+{
+    lists[from as usize].push(Item::Cell { patch, slot, mass })?;
+    Ok(())
+}
+
+/// The ghost cell at a slot of a patch.
+fn ghost_at(s: Shared<'_>, number: u32, slot: u32) -> Cell
+    requires there { number < length s.own.patches.now }
+    requires inside { slot < beside_count (box_at (sharing s) number) }
+    ensures { result ≡ ghost_at (sharing s.entry) number slot }
+{
+    beside_cell(&s.own.patches[number as usize].bx(), slot)
+}
 
 /// Adds the ghost cell at a slot of a patch to the list of the rank that its value comes from.
 fn add_slot(
@@ -30,19 +56,22 @@ fn add_slot(
     requires inside { slot < beside_count (box_at (sharing s) number) }
     ensures { OnOk result (AreAdded (λ from. told_at (sharing s.entry) from number slot) lists.old lists.new) }
 {
-    let c = beside_cell(&s.own.patches[number as usize].bx(), slot);
-    if let Some(told) = told_of(s, near, c) {
-        let item = Item::Cell {
-            patch: number,
-            slot,
-            mass: told.mass,
-        };
-        lists[told.from as usize].push(item)?;
+    match told_of(s, near, ghost_at(s, number, slot)) {
+        Some(told) => add_cell(lists, told.from, number, slot, told.mass),
+        None => Ok(()),
     }
-    Ok(())
+}
+
+/// How many ghost cells lie beside a patch.
+fn slot_count(s: Shared<'_>, number: u32) -> u32
+    requires { number < length s.own.patches.now }
+    ensures { result ≡ beside_count (box_at (sharing s.entry) number) }
+{
+    beside_count(&s.own.patches[number as usize].bx())
 }
 
 /// Adds the ghost cells of a patch, slot by slot.
+#[tactic(none)]
 fn add_frame(
     s: Shared<'_>,
     number: u32,
@@ -55,11 +84,32 @@ fn add_frame(
     requires there { number < length s.own.patches.now }
     ensures { OnOk result (AreAdded (λ from. told_of (sharing s.entry) from number) lists.old lists.new) }
 {
-    let count = beside_count(&s.own.patches[number as usize].bx());
+    let count = slot_count(s, number);
     for slot in 0..count {
         add_slot(s, number, slot, near, lists)?;
     }
     Ok(())
+}
+
+/// Adds the ghost cells of a patch, if rank `to` owns it.
+#[tactic(none)]
+fn add_own(
+    s: Shared<'_>,
+    number: u32,
+    to: u32,
+    near: &mut Near,
+    lists: &mut [Vec<Item>],
+) -> Result<(), NoMemory>
+    requires level { s.level ≤ 4 }
+    requires own { AreOwned (length lists.old) s.own.patches.now s.own.owners.now }
+    requires coarser { AreOwned (length lists.old) s.coarser.patches.now s.coarser.owners.now }
+    requires there { number < length s.own.patches.now }
+    ensures { OnOk result (AreAdded (λ from. told_to (sharing s.entry) from to number) lists.old lists.new) }
+{
+    if s.own.owners[number as usize] != to {
+        return Ok(());
+    }
+    add_frame(s, number, near, lists)
 }
 
 /// An empty list for each rank.
@@ -75,6 +125,7 @@ fn no_items(alloc: Global, ranks: u32) -> Result<Vec<Vec<Item>>, NoMemory>
 }
 
 /// What each of so many ranks tells rank `to`, in one pass over its patches.
+#[tactic(none)]
 pub(crate) fn items_for(
     alloc: Global,
     s: Shared<'_>,
@@ -90,9 +141,7 @@ pub(crate) fn items_for(
     let mut lists = no_items(alloc, ranks)?;
     let mut near = Near { own: 0, coarser: 0 };
     for k in 0..s.own.patches.len() {
-        if s.own.owners[k] == to {
-            add_frame(s, k as u32, &mut near, lists.as_mut_slice())?;
-        }
+        add_own(s, k as u32, to, &mut near, lists.as_mut_slice())?;
     }
     Ok(lists)
 }

@@ -1,0 +1,7 @@
+use Rattle.std.specs.List.{flat_map, range_with_len}
+use Rattle.amr_letters.specs.Between.{told_to}
+use Rattle.amr_letters.specs.Shared.{AreAdded, sharing}
+use Rattle.amr_letters.proofs.items.items_for.Given as goal
+
+abbrev pub invariant-loop-k : goal.invariant-loop-k
+invariant-loop-k l = AreAdded (λ from. flat_map (told_to (sharing l.entry.s) from l.to) (range_with_len 0 l.k)) l.no_items-lists.items l.lists.items
