@@ -17,7 +17,6 @@ use Rattle.amr_letters.specs.Sources.{Sharing, ghost_at, source, value_of}
 use Rattle.amr_letters.specs.Between.{AreSmallItems, IsSmallItem, between, frame_cell, is_rank, item_of, told_at, told_of, told_to}
 use Rattle.amr_letters.specs.Shared.{AreAdded, AreItemsFor, AreSmallLists}
 
-
 -- ---- a list of a range, and one more
 
 pub flat_map-range_more : {X : Type 0} (f : ℕ → List X) (a n j : ℕ) → a + n ≡ j → flat_map f (range_with_len a (n + 1)) ≡ flat_map f (range_with_len a n) ++ f j

@@ -71,7 +71,7 @@ fn slot_count(s: Shared<'_>, number: u32) -> u32
 }
 
 /// Adds the ghost cells of a patch, slot by slot.
-#[tactic(none)]
+
 fn add_frame(
     s: Shared<'_>,
     number: u32,
@@ -92,7 +92,7 @@ fn add_frame(
 }
 
 /// Adds the ghost cells of a patch, if rank `to` owns it.
-#[tactic(none)]
+
 fn add_own(
     s: Shared<'_>,
     number: u32,
@@ -125,7 +125,7 @@ fn no_items(alloc: Global, ranks: u32) -> Result<Vec<Vec<Item>>, NoMemory>
 }
 
 /// What each of so many ranks tells rank `to`, in one pass over its patches.
-#[tactic(none)]
+
 pub(crate) fn items_for(
     alloc: Global,
     s: Shared<'_>,
