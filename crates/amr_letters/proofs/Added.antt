@@ -109,14 +109,12 @@ module _ (s : Sharing) (to k : ℕ) where
 
 -- ---- all
 
-pub all_told : (s : Sharing) (ranks to n : ℕ) (first lists : List (Vec Item)) → length first ≡ ranks → All (λ (v : Vec Item). v.items ≡ []) first → n ≡ length s.patches
-    → AreAdded (λ from. flat_map (told_to s from to) (range_with_len 0 n)) first lists → AreItemsFor s ranks to lists
-all_told s ranks to n first lists count empty all h = record {
+pub all_told : (s : Sharing) (ranks to : ℕ) (first lists : List (Vec Item)) → length first ≡ ranks → All (λ (v : Vec Item). v.items ≡ []) first → AreAdded (λ from. between s from to) first lists → AreItemsFor s ranks to lists
+all_told s ranks to first lists count empty h = record {
   counted = h.counted ∙ count;
   told = λ from v lt.
       (let there : from < length first = omega (arith, lt, count) in
-      h.added from v there ∙ ap (λ (is : List Item). is ++ map item_of (flat_map (told_to s from to) (range_with_len 0 n))) (empty from v there)
-      ∙ ap (λ m. map item_of (flat_map (told_to s from to) (range_with_len 0 m))) all);
+      h.added from v there ∙ ap (λ (is : List Item). is ++ map item_of (between s from to)) (empty from v there));
   small = h.small (λ from v lt. subst AreSmallItems (sym (empty from v lt)) (All-nil IsSmallItem));
 }
 

@@ -4,3 +4,5 @@ pub mod Joined
 pub mod Known
 pub mod Holders
 pub mod Added
+pub mod Net
+pub mod Tells

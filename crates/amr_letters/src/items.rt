@@ -5,7 +5,7 @@ ghost use Rattle.std.specs.List.{All, flat_map, range_with_len};
 ghost use Rattle.amr_ranks.specs.declared.item.Item.{Item};
 ghost use Rattle.amr_letters.specs.Sources.{AreOwned, box_at, ghost_at};
 ghost use Rattle.amr_letters.specs.Beside.{beside_count};
-ghost use Rattle.amr_letters.specs.Between.{told_at, told_of, told_to};
+ghost use Rattle.amr_letters.specs.Between.{between, told_at, told_of, told_to};
 ghost use Rattle.amr_letters.specs.Shared.{AreAdded, AreItemsFor, sharing};
 
 use crate::beside::{beside_cell, beside_count};
@@ -124,7 +124,22 @@ fn no_items(alloc: Global, ranks: u32) -> Result<Vec<Vec<Item>>, NoMemory>
     Ok(lists)
 }
 
-/// What each of so many ranks tells rank `to`, in one pass over its patches.
+/// Adds the ghost cells of the patches that rank `to` owns, in one pass over all.
+fn add_all(s: Shared<'_>, to: u32, lists: &mut [Vec<Item>]) -> Result<(), NoMemory>
+    requires level { s.level ≤ 4 }
+    requires few { length s.own.patches.now ≤ 2 ^ 32 }
+    requires own { AreOwned (length lists.old) s.own.patches.now s.own.owners.now }
+    requires coarser { AreOwned (length lists.old) s.coarser.patches.now s.coarser.owners.now }
+    ensures { OnOk result (AreAdded (λ from. between (sharing s.entry) from to) lists.old lists.new) }
+{
+    let mut near = Near { own: 0, coarser: 0 };
+    for k in 0..s.own.patches.len() {
+        add_own(s, k as u32, to, &mut near, lists)?;
+    }
+    Ok(())
+}
+
+/// What each of so many ranks tells rank `to`.
 
 pub(crate) fn items_for(
     alloc: Global,
@@ -139,9 +154,6 @@ pub(crate) fn items_for(
     ensures { IfOk result (λ v. AreItemsFor (sharing s.entry) ranks to v.items) }
 {
     let mut lists = no_items(alloc, ranks)?;
-    let mut near = Near { own: 0, coarser: 0 };
-    for k in 0..s.own.patches.len() {
-        add_own(s, k as u32, to, &mut near, lists.as_mut_slice())?;
-    }
+    add_all(s, to, lists.as_mut_slice())?;
     Ok(lists)
 }

@@ -1,9 +1,7 @@
-use Rattle.std.proofs.Common.{◌≡◌, ◌∙◌, ℕ, refl, sym, ap, subst, arith, length}
-use Rattle.amr_letters.specs.Sources.{AreOwned}
-use Rattle.amr_letters.specs.Between.{told_to}
-use Rattle.amr_letters.specs.Shared.{AreAdded, sharing}
-use Rattle.amr_letters.proofs.Added.{added_more, added_none, all_told}
+use Rattle.amr_letters.specs.Shared.{sharing}
+use Rattle.amr_letters.proofs.Added.{all_told}
 use Rattle.amr_letters.proofs.items.items_for.Goals as goal
 
-pub loop-k-init : goal.loop-k-init
-loop-k-init c = added_none _ c.in_ok-no_items.lists.items (λ from. refl)
+pub returns : goal.returns
+returns c =
+    all_told (sharing c.args.s) c.args.ranks c.args.to c.in_ok-lists.lists.items _ c.in_ok-lists.ensures.counted c.in_ok-lists.ensures.empty c.in_ok-add_all.ensures
