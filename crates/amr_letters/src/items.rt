@@ -18,15 +18,15 @@ use std::alloc::Global;
 
 /// Adds a cell to the list of the rank that tells it.
 fn add_cell(
-    lists: &mut [Vec<Item>],
+    lists: &mut Vec<Vec<Item>>,
     from: u32,
     patch: u32,
     slot: u32,
     mass: u64,
 ) -> Result<(), NoMemory>
-    requires from { from < length lists.old }
+    requires from { from < length lists.old.items }
     requires small { mass < 2 ^ 32 }
-    ensures { OnOk result (AreAdded (λ rank. cond (from == rank) (record { patch = patch; slot = slot; mass = mass } ∷ []) []) lists.old lists.new) }
+    ensures { OnOk result (AreAdded (λ rank. cond (from == rank) (record { patch = patch; slot = slot; mass = mass } ∷ []) []) lists.old.items lists.new.items) }
 {
     lists[from as usize].push(Item::Cell { patch, slot, mass })?;
     Ok(())
@@ -47,14 +47,14 @@ fn add_slot(
     number: u32,
     slot: u32,
     near: &mut Near,
-    lists: &mut [Vec<Item>],
+    lists: &mut Vec<Vec<Item>>,
 ) -> Result<(), NoMemory>
     requires level { s.level ≤ 4 }
-    requires own { AreOwned (length lists.old) s.own.patches.now s.own.owners.now }
-    requires coarser { AreOwned (length lists.old) s.coarser.patches.now s.coarser.owners.now }
+    requires own { AreOwned (length lists.old.items) s.own.patches.now s.own.owners.now }
+    requires coarser { AreOwned (length lists.old.items) s.coarser.patches.now s.coarser.owners.now }
     requires there { number < length s.own.patches.now }
     requires inside { slot < beside_count (box_at (sharing s) number) }
-    ensures { OnOk result (AreAdded (λ from. told_at (sharing s.entry) from number slot) lists.old lists.new) }
+    ensures { OnOk result (AreAdded (λ from. told_at (sharing s.entry) from number slot) lists.old.items lists.new.items) }
 {
     match told_of(s, near, ghost_at(s, number, slot)) {
         Some(told) => add_cell(lists, told.from, number, slot, told.mass),
@@ -76,13 +76,13 @@ fn add_frame(
     s: Shared<'_>,
     number: u32,
     near: &mut Near,
-    lists: &mut [Vec<Item>],
+    lists: &mut Vec<Vec<Item>>,
 ) -> Result<(), NoMemory>
     requires level { s.level ≤ 4 }
-    requires own { AreOwned (length lists.old) s.own.patches.now s.own.owners.now }
-    requires coarser { AreOwned (length lists.old) s.coarser.patches.now s.coarser.owners.now }
+    requires own { AreOwned (length lists.old.items) s.own.patches.now s.own.owners.now }
+    requires coarser { AreOwned (length lists.old.items) s.coarser.patches.now s.coarser.owners.now }
     requires there { number < length s.own.patches.now }
-    ensures { OnOk result (AreAdded (λ from. told_of (sharing s.entry) from number) lists.old lists.new) }
+    ensures { OnOk result (AreAdded (λ from. told_of (sharing s.entry) from number) lists.old.items lists.new.items) }
 {
     let count = slot_count(s, number);
     for slot in 0..count {
@@ -98,13 +98,13 @@ fn add_own(
     number: u32,
     to: u32,
     near: &mut Near,
-    lists: &mut [Vec<Item>],
+    lists: &mut Vec<Vec<Item>>,
 ) -> Result<(), NoMemory>
     requires level { s.level ≤ 4 }
-    requires own { AreOwned (length lists.old) s.own.patches.now s.own.owners.now }
-    requires coarser { AreOwned (length lists.old) s.coarser.patches.now s.coarser.owners.now }
+    requires own { AreOwned (length lists.old.items) s.own.patches.now s.own.owners.now }
+    requires coarser { AreOwned (length lists.old.items) s.coarser.patches.now s.coarser.owners.now }
     requires there { number < length s.own.patches.now }
-    ensures { OnOk result (AreAdded (λ from. told_to (sharing s.entry) from to number) lists.old lists.new) }
+    ensures { OnOk result (AreAdded (λ from. told_to (sharing s.entry) from to number) lists.old.items lists.new.items) }
 {
     if s.own.owners[number as usize] != to {
         return Ok(());
@@ -125,12 +125,12 @@ fn no_items(alloc: Global, ranks: u32) -> Result<Vec<Vec<Item>>, NoMemory>
 }
 
 /// Adds the ghost cells of the patches that rank `to` owns, in one pass over all.
-fn add_all(s: Shared<'_>, to: u32, lists: &mut [Vec<Item>]) -> Result<(), NoMemory>
+fn add_all(s: Shared<'_>, to: u32, lists: &mut Vec<Vec<Item>>) -> Result<(), NoMemory>
     requires level { s.level ≤ 4 }
     requires few { length s.own.patches.now ≤ 2 ^ 32 }
-    requires own { AreOwned (length lists.old) s.own.patches.now s.own.owners.now }
-    requires coarser { AreOwned (length lists.old) s.coarser.patches.now s.coarser.owners.now }
-    ensures { OnOk result (AreAdded (λ from. between (sharing s.entry) from to) lists.old lists.new) }
+    requires own { AreOwned (length lists.old.items) s.own.patches.now s.own.owners.now }
+    requires coarser { AreOwned (length lists.old.items) s.coarser.patches.now s.coarser.owners.now }
+    ensures { OnOk result (AreAdded (λ from. between (sharing s.entry) from to) lists.old.items lists.new.items) }
 {
     let mut near = Near { own: 0, coarser: 0 };
     for k in 0..s.own.patches.len() {
@@ -154,6 +154,6 @@ pub(crate) fn items_for(
     ensures { IfOk result (λ v. AreItemsFor (sharing s.entry) ranks to v.items) }
 {
     let mut lists = no_items(alloc, ranks)?;
-    add_all(s, to, lists.as_mut_slice())?;
+    add_all(s, to, &mut lists)?;
     Ok(lists)
 }

@@ -7,7 +7,7 @@ use Rattle.amr_letters.proofs.Added.{added_more, added_none}
 use Rattle.amr_letters.proofs.items.add_all.Goals as goal
 
 pub loop-k-init : goal.loop-k-init
-loop-k-init c = added_none _ c.args.lists.now (λ from. refl)
+loop-k-init c = added_none _ c.args.lists.now.items (λ from. refl)
 
 pub add_own-requires-clause-own : goal.add_own-requires-clause-own
 add_own-requires-clause-own c = subst (λ n. AreOwned n c.args.s.own.patches.now c.args.s.own.owners.now) (sym c.loop-k.invariant.counted) c.requires.own
@@ -17,10 +17,10 @@ add_own-requires-clause-coarser c = subst (λ n. AreOwned n c.args.s.coarser.pat
 
 pub loop-k-preserved : goal.loop-k-preserved
 loop-k-preserved c =
-    added_more (λ from. told_to (sharing c.args.s) from c.args.to) c.loop-k.k c.args.lists.now c.loop-k.lists c.add_own.new.lists c.loop-k.invariant c.in_ok-add_own.ensures
+    added_more (λ from. told_to (sharing c.args.s) from c.args.to) c.loop-k.k c.args.lists.now.items c.loop-k.lists.items c.add_own.new.lists.items c.loop-k.invariant c.in_ok-add_own.ensures
 
 pub returns : goal.returns
 returns c =
     let s = sharing c.args.s in
     let all : c.loop-k.k ≡ length c.args.s.own.patches.now = (let f = c.loop-k-test.false in let e = c.loop-k.auto.k-end in omega arith) in
-    subst (λ (n : ℕ). AreAdded (λ from. flat_map (told_to s from c.args.to) (range_with_len 0 n)) c.args.lists.now c.loop-k.lists) all c.loop-k.invariant
+    subst (λ (n : ℕ). AreAdded (λ from. flat_map (told_to s from c.args.to) (range_with_len 0 n)) c.args.lists.now.items c.loop-k.lists.items) all c.loop-k.invariant

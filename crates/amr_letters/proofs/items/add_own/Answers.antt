@@ -6,7 +6,7 @@ use Rattle.amr_letters.proofs.items.add_own.Goals as goal
 
 pub returns-then-s-number : goal.returns-then-s-number
 returns-then-s-number c =
-    added_none (λ from. told_to (sharing c.args.s) from c.args.to c.args.number) c.args.lists.now (λ from. others_silent (sharing c.args.s) c.args.to c.args.number _ c.if-s-number.true from)
+    added_none (λ from. told_to (sharing c.args.s) from c.args.to c.args.number) c.args.lists.now.items (λ from. others_silent (sharing c.args.s) c.args.to c.args.number _ c.if-s-number.true from)
 
 pub returns : goal.returns
 returns c =
