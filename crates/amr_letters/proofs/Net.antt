@@ -69,7 +69,7 @@ module _ (s : Sharing) (ranks to : ℕ) where
       by_test true ms none = let own = no_share word (between s u to) in let r : share_in word (map item_of (between s u to)) + shares_of word ms ≡ 0 = omega (arith, own, none) in r
       by_test false ms none = none
 
-  count : length (letters_for s ranks to) ≡ ranks
+  pub count : length (letters_for s ranks to) ≡ ranks
   count = length-map-range_with_len (letter_between s ranks to) 0 ranks
 
   number_at : (j : ℕ) → j < ranks → (letter_at (letters_for s ranks to) j).number ≡ j * ranks + to

@@ -28,7 +28,6 @@ use std::sync::Wait;
 use std::thread::Threads;
 
 /// The letters to rank `to`, one from each of so many ranks: what each tells of the ghost cells of its patches.
-#[tactic(none)]
 fn letters_for(alloc: Global, s: Shared<'_>, to: u32, ranks: u32) -> Result<Vec<Letter>, NoMemory>
     requires level { s.level ≤ 4 }
     requires few { length s.own.patches.now ≤ 2 ^ 32 }
@@ -49,7 +48,6 @@ fn letters_for(alloc: Global, s: Shared<'_>, to: u32, ranks: u32) -> Result<Vec<
 }
 
 /// How many items letters have.
-#[tactic(none)]
 fn count_items(letters: &[Letter]) -> Result<usize, NoMemory>
     ensures { IfOk result (λ n. n ≡ total (λ (l : LetterOf). length l.items) letters.now) }
 {
@@ -61,7 +59,6 @@ fn count_items(letters: &[Letter]) -> Result<usize, NoMemory>
 }
 
 /// Rank `to` with the letters to it.
-#[tactic(none)]
 fn rank_for(alloc: Global, s: Shared<'_>, to: u32, ranks: u32) -> Result<Rank, NoMemory>
     requires level { s.level ≤ 4 }
     requires few { length s.own.patches.now ≤ 2 ^ 32 }
@@ -80,7 +77,6 @@ fn rank_for(alloc: Global, s: Shared<'_>, to: u32, ranks: u32) -> Result<Rank, N
 }
 
 /// Each of so many ranks, with the letters to it. All memory of the round is taken here.
-#[tactic(none)]
 fn ranks_for(alloc: Global, s: Shared<'_>, ranks: u32) -> Result<Vec<Rank>, NoMemory>
     requires level { s.level ≤ 4 }
     requires few { length s.own.patches.now ≤ 2 ^ 32 }
