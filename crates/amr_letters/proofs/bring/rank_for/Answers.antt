@@ -18,6 +18,6 @@ make-requires-clause-own c =
 
 pub make-requires-clause-net : goal.make-requires-clause-net
 make-requires-clause-net c =
-    let is : c.in_ok-cells.cells ≡ total (λ (l : LetterOf). length l.items) c.in_ok-letters.letters.items = c.in_ok-cells.ensures in
+    let is : c.in_ok-cells.cells ≡ total (λ (l : LetterOf). length l.items) c.in_ok-letters.letters.items = c.in_ok-cells.ensures ∙ ap (total (λ (l : LetterOf). length l.items)) c.as_slice.ensures.value in
     let same = ap (total (λ (l : LetterOf). length l.items)) c.in_ok-letters.ensures.letters in
     subst (λ (ls : List LetterOf). IsNet ls (c.args.to + 1) 0 c.in_ok-cells.cells) (sym c.in_ok-letters.ensures.letters) (net (sharing c.args.s) c.args.ranks c.args.to c.in_ok-cells.cells (omega (arith, is, same)))
