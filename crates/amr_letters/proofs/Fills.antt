@@ -1,5 +1,5 @@
 -- A frame is filled slot by slot: what a patch gains, and what it keeps.
-use Rattle.std.proofs.Common.{◌≡◌, ◌≢◌, ◌∙◌, ℕ, ◌+◌, ◌<◌, Bool, true, false, ◌||◌, IsTrue, inl, inr, refl, sym, ap, subst, arith, below_more}
+use Rattle.std.proofs.Common.{◌≡◌, ◌≢◌, ◌∙◌, ℕ, ◌+◌, ◌<◌, Bool, ◌||◌, IsTrue, inl, inr, refl, sym, ap, subst, arith, below_more}
 use Rattle.std.specs.Prelude.{◌⊎◌, not}
 use Rattle.std.proofs.lemmas.Bool.{and_parts}
 use Rattle.amr_box.specs.declared.Cell.{Cell}
@@ -9,13 +9,11 @@ use Rattle.amr_def.specs.State.{Masses}
 use Rattle.amr_def.specs.Value.{value_at}
 use Rattle.amr_patch.specs.declared.patches.Patch.{Patch}
 use Rattle.amr_patch.specs.Places.{grown, in_frame}
-use Rattle.amr_patch.specs.Patches.{SameFluxes, SameOtherMarks, SameOtherValues, box, ghost_in, mark_in, value_in}
+use Rattle.amr_patch.specs.Patches.{SameFluxes, SameOtherMarks, SameOtherValues, box, ghost_in, mark_in}
 use Rattle.amr_patch.proofs.Entries.{in_grown}
 use Rattle.amr_ghost.specs.Frames.{HasGhostValues, KeepsCorners, SameMasses, is_beside, is_corner}
 use Rattle.amr_ghost.proofs.Steps.{apart_cells, corner_apart, corner_grown, frame_grown, same_or_other}
-use Rattle.amr_ranks.specs.Nodes.{NodeOf}
 use Rattle.amr_letters.specs.Beside.{beside_cell, beside_count, slot_of}
-use Rattle.amr_letters.specs.Told.{TellsFrame, value_by}
 use Rattle.amr_letters.specs.Filled.{AreSlotsFilled, IsValueSet}
 use Rattle.amr_letters.proofs.Slots.{all_beside, slots_held, slots_one, slots_within}
 

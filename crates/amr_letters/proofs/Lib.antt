@@ -6,3 +6,4 @@ pub mod Holders
 pub mod Added
 pub mod Net
 pub mod Tells
+pub mod Patches

@@ -1,13 +1,12 @@
 -- The cells beside a box by their slots, side by side.
-use Rattle.std.proofs.Common.{◌≡◌, ◌∙◌, ℕ, ◌+◌, ◌-◌, ◌*◌, ◌<◌, ◌≤◌, cond, Bool, true, false, nat_lt, IsTrue, ℤ, pos, negsuc, ◌+ℤ◌, ◌-ℤ◌, ◌≤ℤ◌, ◌<ℤ◌, refl, sym, ap, subst, arith}
+use Rattle.std.proofs.Common.{◌≡◌, ◌∙◌, ℕ, ◌+◌, ◌-◌, ◌*◌, ◌<◌, ◌≤◌, true, false, IsTrue, ℤ, pos, ◌+ℤ◌, ◌-ℤ◌, ◌≤ℤ◌, ◌<ℤ◌, refl, sym, ap, subst, arith}
 use Rattle.std.specs.Prelude.{int_lt, ◌⊎◌}
 use Rattle.std.proofs.Common.{inl, inr}
 use Rattle.std.proofs.lemmas.Int.{ints}
 use Rattle.std.proofs.lemmas.Bool.{cases_lt, le-ltb, lt-ltb}
 use Rattle.amr_box.specs.declared.Cell.{Cell}
-use Rattle.amr_box.specs.Cells.{Extent, IsProper, at_least_zero, cell, height, width, within}
+use Rattle.amr_box.specs.Cells.{Extent, IsProper, at_least_zero, height, width}
 use Rattle.amr_box.proofs.CellLists.{in_range}
-use Rattle.amr_patch.specs.Places.{column_of, row_of}
 use Rattle.amr_ghost.specs.Frames.{is_beside}
 use Rattle.amr_ghost.proofs.BoxSides.{above_out, below_out, by_sides, east_beside, north_beside, south_beside, west_beside}
 use Rattle.amr_letters.specs.Beside.{beside_cell, beside_count, east_of, north_of, slot_of, south_of, west_of}

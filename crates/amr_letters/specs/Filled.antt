@@ -28,7 +28,8 @@ pub record IsValueSet (c : Cell) (value : ℕ) (q r : Patch) : Type 0 where
 pub record AreSlotsFilled (value : ℕ → ℕ) (count : ℕ) (q r : Patch) : Type 0 where
   pub of_box : box r ≡ box q
   pub set : (slot : ℕ) → slot < count → ghost_in r (beside_cell (box q) slot) ≡ value slot
-  pub others : (c : Cell) → IsTrue (holds (grown (box q)) c) → ((slot : ℕ) → slot < count → c ≢ beside_cell (box q) slot) → value_in r c ≡ value_in q c
+  pub others : (c : Cell) → IsTrue (holds (grown (box q)) c) → ((slot : ℕ) → slot < count → c ≢ beside_cell (box q) slot)
+      → value_in r c ≡ value_in q c
   pub marks : SameFrameMarks q r
   pub fluxes : SameFluxes q r
 

@@ -4,7 +4,7 @@ ghost use Rattle.std.specs.Prelude.{◌≡◌, ℕ, ◌<◌, ◌≤◌, ◌^◌,
 ghost use Rattle.std.specs.List.{All, AllZip};
 ghost use Rattle.amr_def.specs.Domain.{domain, home_cell};
 ghost use Rattle.amr_def.specs.State.{Masses};
-ghost use Rattle.amr_patch.specs.Patches.{SameFluxes, box};
+ghost use Rattle.amr_patch.specs.Patches.{SameFluxes, box, ghost_in};
 ghost use Rattle.amr_ghost.specs.Frames.{HasGhostValues, KeepsCorners, SameMasses};
 ghost use Rattle.amr_ranks.specs.Items.{mass_at};
 ghost use Rattle.amr_letters.specs.Beside.{beside_cell, beside_count};
@@ -77,6 +77,8 @@ fn fill_slots(p: &Problem, l: u32, patch: &mut Patch, number: u32, node: &Node)
 pub fn fill_frame(p: &Problem, l: u32, patch: &mut Patch, number: u32, node: &Node)
     requires level { l ≤ 4 }
     requires node_masses { HasPatchMasses node.now }
+    ensures told { (slot : ℕ) → slot < beside_count (box patch.old)
+        → ghost_in patch.new (beside_cell (box patch.old) slot) ≡ value_by p.now l number (box patch.old) node.now slot }
     ensures filled { (m old : Masses) → TellsFrame p.now l m old number (box patch.old) node.now → HasGhostValues p.now l m old patch.new }
     ensures marks { SameFrameMarks patch.old patch.new }
     ensures masses { SameMasses patch.old patch.new }

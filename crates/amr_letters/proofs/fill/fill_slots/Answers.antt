@@ -1,5 +1,4 @@
 use Rattle.std.proofs.Common.{◌≡◌, ◌∙◌, ◌<◌, ap, arith}
-use Rattle.amr_box.specs.Cells.{Extent}
 use Rattle.amr_patch.specs.Patches.{box}
 use Rattle.amr_letters.specs.Beside.{beside_count}
 use Rattle.amr_letters.specs.Told.{value_by}
