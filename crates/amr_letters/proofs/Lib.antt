@@ -5,5 +5,7 @@ pub mod Known
 pub mod Holders
 pub mod Added
 pub mod Net
+pub mod Made
 pub mod Tells
 pub mod Patches
+pub mod Brought

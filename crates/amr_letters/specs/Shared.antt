@@ -9,7 +9,8 @@ use Rattle.amr_post.specs.declared.ranks.Rank.{Rank}
 use Rattle.amr_post.specs.Letters.{AreSame, MayDeliver, letters_in}
 use Rattle.amr_letters.specs.declared.levels.Shared.{Shared}
 use Rattle.amr_letters.specs.Sources.{Sharing}
-use Rattle.amr_letters.specs.Between.{AreSmallItems, between, item_of, letters_for}
+use Rattle.amr_letters.specs.Told.{HasPatchMasses}
+use Rattle.amr_letters.specs.Between.{AreSmallItems, KnowsSources, between, item_of, letters_for}
 
 -- the same, as the definitions take it
 abbrev pub sharing : Shared → Sharing
@@ -53,3 +54,9 @@ pub record IsRankFor (s : Sharing) (ranks to : ℕ) (r : Rank) : Type 0 where
 pub record AreRanksFor (s : Sharing) (ranks : ℕ) (rs : List Rank) : Type 0 where
   pub counted : length rs ≡ ranks
   pub at : (k : ℕ) (r : Rank) → k < ranks → IsRankFor s ranks k (slice_index_or rs k r)
+
+-- the node of each of so many ranks has the values of the ghost cells of its patches
+pub record KnowFrames (s : Sharing) (ranks : ℕ) (rs : List Rank) : Type 0 where
+  pub counted : length rs ≡ ranks
+  pub at : (k : ℕ) (r : Rank) → k < ranks → KnowsSources s k (slice_index_or rs k r).node
+  pub small : All (λ (r : Rank). HasPatchMasses r.node) rs

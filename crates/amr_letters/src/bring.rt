@@ -12,7 +12,7 @@ ghost use Rattle.amr_ghost.specs.Frames.{HasGhostValues, KeepsCorners, SameMasse
 ghost use Rattle.amr_letters.specs.Filled.{SameFrameMarks};
 ghost use Rattle.amr_letters.specs.Sources.{AreOwned};
 ghost use Rattle.amr_letters.specs.Between.{letters_for};
-ghost use Rattle.amr_letters.specs.Shared.{AreRanksFor, AreSmallLetters, IsRankFor, sharing};
+ghost use Rattle.amr_letters.specs.Shared.{AreRanksFor, KnowFrames, AreSmallLetters, IsRankFor, sharing};
 
 use crate::fill::fill_frames;
 use crate::items::items_for;
@@ -89,5 +89,19 @@ fn ranks_for(alloc: Global, s: Shared<'_>, ranks: u32) -> Result<Vec<Rank>, NoMe
     for to in 0..ranks {
         all.push(rank_for(alloc, s, to, ranks)?)?;
     }
+    Ok(all)
+}
+
+/// Each of so many ranks, after the letters went: what it then has of the ghost cells of its patches.
+fn bring<R: Threads + Wait + Sync>(rt: &R, alloc: Global, s: Shared<'_>, ranks: u32) -> Result<Vec<Rank>, NoMemory>
+    requires level { s.level ≤ 4 }
+    requires few { length s.own.patches.now ≤ 2 ^ 32 }
+    requires ranks { ranks ≤ 8 }
+    requires own { AreOwned ranks s.own.patches.now s.own.owners.now }
+    requires coarser { AreOwned ranks s.coarser.patches.now s.coarser.owners.now }
+    ensures { IfOk result (λ v. KnowFrames (sharing s.entry) ranks v.items) }
+{
+    let mut all = ranks_for(alloc, s, ranks)?;
+    round(rt, &mut all);
     Ok(all)
 }

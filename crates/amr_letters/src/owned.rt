@@ -8,7 +8,7 @@ ghost use Rattle.amr_def.specs.Domain.{domain, in_domain};
 ghost use Rattle.amr_def.specs.State.{mass_of};
 ghost use Rattle.amr_patch.specs.Patches.{masses_in};
 ghost use Rattle.amr_ghost.specs.Frames.{old_masses};
-ghost use Rattle.amr_patch.specs.Levels.{patches_of};
+ghost use Rattle.amr_patch.specs.Levels.{level_of, patches_of};
 ghost use Rattle.amr_letters.specs.Sources.{holder, source, value_of};
 ghost use Rattle.amr_letters.specs.Shared.{sharing};
 ghost use Rattle.amr_letters.specs.declared.owned.Told.{Told};
@@ -35,6 +35,7 @@ pub(crate) struct Told {
 fn level_patches<'a>(level: &'a Level, owners: &'a [u32]) -> OwnedPatches<'a>
     requires { length owners.now ≡ length (patches_of level.now) }
     ensures patches { result.patches.now ≡ patches_of level.now }
+    ensures masses { masses_in result.patches.now ≡ (level_of level.now).masses }
     ensures owners { result.owners.now ≡ owners.entry.now }
 {
     OwnedPatches {
@@ -62,10 +63,10 @@ pub(crate) fn coarser_patches<'a>(coarser: Option<&'a Level>, owners: &'a [u32])
     ensures masses { masses_in result.patches.now ≡ old_masses (option_copied coarser.entry) }
     ensures owners { (n : ℕ) → All (λ owner. owner < n) owners.entry.now → All (λ owner. owner < n) result.owners.now }
 {
-    match coarser {
-        Some(level) => level_patches(level, owners),
-        None => no_patches(),
-    }
+    let Some(level) = coarser else {
+        return no_patches();
+    };
+    level_patches(level, owners)
 }
 
 /// What the owner of the patch that has a cell has there. None exactly where no patch has it.
