@@ -1,6 +1,8 @@
 -- After the round each rank knows the values of the ghost cells of its patches, and their frames are told.
 use Rattle.std.proofs.Common.{◌≡◌, ◌∙◌, ℕ, ◌+◌, ◌<◌, ◌^◌, List, length, get_or, refl, sym, ap, subst, arith}
-use Rattle.std.specs.Prelude.{IfSome, map, slice_index}
+use Rattle.std.specs.Prelude.{IfOk, IfSome, map, slice_index}
+use Rattle.std.specs.declared.result.Result.{Result}
+use Rattle.std.specs.declared.result.Result.TheVariants.{Err, Ok}
 use Rattle.std.specs.declared.option.Option.{Option}
 use Rattle.std.specs.declared.option.Option.TheVariants.{Some}
 use Rattle.std.specs.List.{All}
@@ -20,6 +22,10 @@ use Rattle.amr_letters.proofs.Holders.{source_below}
 use Rattle.amr_letters.proofs.Known.{knows}
 use Rattle.amr_letters.proofs.Net.{masses_small}
 use Rattle.amr_letters.proofs.Tells.{tells}
+
+pub if_ok : {A E : Type 0} {P Q : A → Type 0} (r : Result A E) → IfOk r P → ((x : A) → P x → Q x) → IfOk r Q
+if_ok (Ok x) h then = then x h
+if_ok (Err e) h then = h
 
 -- the letters of the ranks may go
 pub may_deliver : (s : Sharing) (ranks : ℕ) (rs : List Rank) → AreRanksFor s ranks rs → All (λ (r : Rank). MayDeliver r.post r.node) rs

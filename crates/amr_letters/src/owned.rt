@@ -9,7 +9,7 @@ ghost use Rattle.amr_def.specs.State.{mass_of};
 ghost use Rattle.amr_patch.specs.Patches.{masses_in};
 ghost use Rattle.amr_ghost.specs.Frames.{old_masses};
 ghost use Rattle.amr_patch.specs.Levels.{level_of, patches_of};
-ghost use Rattle.amr_letters.specs.Sources.{holder, source, value_of};
+ghost use Rattle.amr_letters.specs.Sources.{AreOwned, holder, source, value_of};
 ghost use Rattle.amr_letters.specs.Shared.{sharing};
 ghost use Rattle.amr_letters.specs.declared.owned.Told.{Told};
 
@@ -57,13 +57,13 @@ fn no_patches<'a>() -> OwnedPatches<'a>
     }
 }
 
-/// The patches of the next coarser level, if there is one, else none.
-pub(crate) fn coarser_patches<'a>(coarser: Option<&'a Level>, owners: &'a [u32]) -> OwnedPatches<'a>
-    requires { IfSome (option_copied coarser) (λ k. length owners.now ≡ length (patches_of k)) }
-    ensures masses { masses_in result.patches.now ≡ old_masses (option_copied coarser.entry) }
-    ensures owners { (n : ℕ) → All (λ owner. owner < n) owners.entry.now → All (λ owner. owner < n) result.owners.now }
+/// The patches of the next coarser level and their owners, if there is one, else none.
+pub(crate) fn coarser_patches<'a>(coarser: Option<(&'a Level, &'a [u32])>) -> OwnedPatches<'a>
+    requires { IfSome coarser (λ k. length k.1.now ≡ length (patches_of k.0.now)) }
+    ensures masses { masses_in result.patches.now ≡ old_masses (option_map (λ k. k.0.now) coarser.entry) }
+    ensures owned { (n : ℕ) → IfSome coarser.entry (λ k. AreOwned n (patches_of k.0.now) k.1.now) → AreOwned n result.patches.now result.owners.now }
 {
-    let Some(level) = coarser else {
+    let Some((level, owners)) = coarser else {
         return no_patches();
     };
     level_patches(level, owners)
