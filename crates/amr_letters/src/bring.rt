@@ -143,7 +143,6 @@ fn frames_told<R: Threads + Wait + Sync>(
 /// stand, `owners` the rank of each. `coarser` is the next coarser level as it was before its step, with the rank of each of its patches; None at
 /// level 0. Each ghost cell beside a patch gets its value, and all else stays, the marks too. All memory is taken before a letter is sent:
 /// `NoMemory` where it runs out or the level has more than 2^32 patches, and then the patches stay as they were.
-#[tactic(none)]
 pub fn bring_frames<R: Threads + Wait + Sync>(
     rt: &R,
     alloc: Global,
