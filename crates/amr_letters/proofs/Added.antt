@@ -1,11 +1,10 @@
 -- Items are added to the lists of ranks, a cell at a time.
-use Rattle.std.proofs.Common.{◌≡◌, ◌≢◌, ◌∙◌, ℕ, zero, suc, ◌+◌, ◌<◌, ◌≤◌, ◌==◌, ◌^◌, cond, Bool, true, false, List, [], ◌∷◌, ◌++◌, length, set, get_or, inl, inr, refl, sym, ap, subst, arith, eq-eqb, ne_eqb, add-one}
+use Rattle.std.proofs.Common.{◌≡◌, ◌≢◌, ◌∙◌, ℕ, zero, suc, ◌+◌, ◌<◌, ◌==◌, ◌^◌, cond, List, [], ◌∷◌, ◌++◌, length, set, inl, inr, refl, sym, ap, subst, arith, eq-eqb, ne_eqb, add-one}
 use Rattle.std.specs.Prelude.{◌⊎◌, OnOk, map, slice_index_or}
 use Rattle.std.specs.declared.result.Result.{Result}
 use Rattle.std.specs.declared.result.Result.TheVariants.{Err, Ok}
 use Rattle.std.specs.Global.{Vec}
 use Rattle.std.specs.List.{All, flat_map, range_with_len}
-use Rattle.std.specs.declared.option.Option.{Option}
 use Rattle.std.specs.declared.option.Option.TheVariants.{None, Some}
 use Rattle.std.proofs.lemmas.Bool.{cases_eq}
 use Rattle.std.proofs.lemmas.List.{append-nil, append_assoc, get_or-set_other, get_or-set_same, length-set, map-append}
@@ -14,8 +13,8 @@ use Rattle.amr_patch.proofs.Lookups.{same_default}
 use Rattle.amr_ranks.specs.declared.item.Item.{Item}
 use Rattle.amr_ranks.specs.declared.item.FrameCell.{FrameCell}
 use Rattle.amr_letters.specs.Sources.{Sharing, ghost_at, source, value_of}
-use Rattle.amr_letters.specs.Between.{AreSmallItems, IsSmallItem, between, frame_cell, is_rank, item_of, told_at, told_of, told_to}
-use Rattle.amr_letters.specs.Shared.{AreAdded, AreItemsFor, AreSmallLists}
+use Rattle.amr_letters.specs.Between.{AreSmallItems, IsSmallItem, between, frame_cell, is_rank, item_of, told_at, told_of}
+use Rattle.amr_letters.specs.Shared.{AreAdded, AreItemsFor}
 
 -- ---- a list of a range, and one more
 

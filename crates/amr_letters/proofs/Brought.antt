@@ -1,6 +1,6 @@
 -- After the round each rank knows the values of the ghost cells of its patches, and their frames are told.
-use Rattle.std.proofs.Common.{◌≡◌, ◌∙◌, ℕ, ◌+◌, ◌<◌, ◌^◌, List, length, get_or, refl, sym, ap, subst, arith}
-use Rattle.std.specs.Prelude.{IfOk, IfSome, map, slice_index}
+use Rattle.std.proofs.Common.{◌≡◌, ◌∙◌, ℕ, ◌<◌, ◌^◌, List, length, get_or, refl, sym, subst, arith}
+use Rattle.std.specs.Prelude.{IfOk, IfSome, slice_index}
 use Rattle.std.specs.declared.result.Result.{Result}
 use Rattle.std.specs.declared.result.Result.TheVariants.{Err, Ok}
 use Rattle.std.specs.declared.option.Option.{Option}
@@ -8,16 +8,15 @@ use Rattle.std.specs.declared.option.Option.TheVariants.{Some}
 use Rattle.std.specs.List.{All}
 use Rattle.std.proofs.lemmas.List.{get_or-map}
 use Rattle.amr_box.specs.Cells.{Extent}
-use Rattle.amr_patch.specs.declared.patches.Patch.{Patch}
 use Rattle.amr_patch.specs.Patches.{box, masses_in}
 use Rattle.amr_ranks.specs.Laws.{HasJust}
 use Rattle.amr_post.specs.declared.ranks.Rank.{Rank}
 use Rattle.amr_post.specs.Letters.{HasDelivered, MayDeliver}
-use Rattle.amr_letters.specs.Sources.{AreOwned, Sharing, box_at, ghost_at, no_box, source}
-use Rattle.amr_letters.specs.Between.{KnowsSources, letters_for}
+use Rattle.amr_letters.specs.Sources.{AreOwned, Sharing, ghost_at, no_box, source}
+use Rattle.amr_letters.specs.Between.{letters_for}
 use Rattle.amr_letters.specs.Told.{HasPatchMasses, TellsFrame}
 use Rattle.amr_letters.specs.Filled.{TellFrames}
-use Rattle.amr_letters.specs.Shared.{AreRanksFor, IsRankFor, KnowFrames}
+use Rattle.amr_letters.specs.Shared.{AreRanksFor, KnowFrames}
 use Rattle.amr_letters.proofs.Holders.{source_below}
 use Rattle.amr_letters.proofs.Known.{knows}
 use Rattle.amr_letters.proofs.Net.{masses_small}
@@ -37,7 +36,7 @@ module _ (s : Sharing) (ranks : ℕ) (own : AreOwned ranks s.patches s.owners) (
 
   -- they went
   module _ (old new : List Rank) (waits : AreRanksFor s ranks old) (same : length new ≡ length old)
-           (went : (k : ℕ) (d : Rank) → k < length old → HasDelivered (get_or old k d).post (get_or old k d).node (get_or new k d).node) where
+      (went : (k : ℕ) (d : Rank) → k < length old → HasDelivered (get_or old k d).post (get_or old k d).node (get_or new k d).node) where
     just_at : (k : ℕ) (r : Rank) → k < ranks → HasJust (get_or new k r).node (length (get_or old k r).node.totals) (letters_for s ranks k)
     just_at k r lt = (went k r (let c = waits.counted in omega (arith, c, lt))).just (letters_for s ranks k) (waits.at k r lt).letters
 

@@ -1,6 +1,6 @@
 -- The rank of the patch that has a cell.
-use Rattle.std.proofs.Common.{◌≡◌, ◌∙◌, ℕ, zero, suc, ◌<◌, ◌/◌, ◌^◌, cond, Bool, true, false, ◌||◌, List, [], ◌∷◌, length, refl, sym, ap, subst, arith}
-use Rattle.std.specs.Prelude.{IsTrue, is_some, option_map, slice_index, slice_index_or, IfSome}
+use Rattle.std.proofs.Common.{◌≡◌, ◌∙◌, ℕ, zero, suc, ◌<◌, ◌/◌, ◌^◌, cond, Bool, true, false, List, [], ◌∷◌, length, refl, sym, ap, arith}
+use Rattle.std.specs.Prelude.{slice_index, IfSome}
 use Rattle.std.specs.declared.option.Option.{Option}
 use Rattle.std.specs.declared.option.Option.TheVariants.{None, Some}
 use Rattle.std.specs.List.{All}
@@ -9,15 +9,13 @@ use Rattle.std.proofs.lemmas.Bool.{false_from_ne_true, or_parts}
 use Rattle.std.proofs.lemmas.List.Elements.{All-head, All-tail}
 use Rattle.amr_box.specs.declared.Cell.{Cell}
 use Rattle.amr_box.specs.Cells.{holds, parent}
-use Rattle.amr_def.specs.declared.problem.Problem.{Problem}
 use Rattle.amr_def.specs.Cut.{or_else}
 use Rattle.amr_def.specs.Domain.{domain, home_cell, in_domain}
-use Rattle.amr_def.specs.State.{Masses, mass_of}
+use Rattle.amr_def.specs.State.{mass_of}
 use Rattle.amr_def.specs.Value.{home_value, inflow_at, value_at}
 use Rattle.amr_patch.specs.declared.patches.Patch.{Patch}
 use Rattle.amr_patch.specs.Orders.{IsHolder}
 use Rattle.amr_patch.specs.Patches.{ArePatchesApart, box, in_patches, mass_in, masses_in}
-use Rattle.amr_patch.proofs.Lookups.{masses_in-none, some_mass}
 use Rattle.amr_letters.specs.Sources.{AreOwned, Sharing, holder, source, source_of_home, value_of}
 
 pub holder-at : (ps : List Patch) (owners : List ℕ) (c : Cell) (i : ℕ) → ArePatchesApart ps → length owners ≡ length ps → IsHolder ps c i → holder ps owners c ≡ Some (slice_index owners i)

@@ -1,12 +1,11 @@
 -- Lists of cells that are joined: what they have at one slot of a patch, where only one of them has that slot.
-use Rattle.std.proofs.Common.{◌≡◌, ◌≢◌, ◌∙◌, ℕ, zero, suc, ◌+◌, ◌<◌, ◌≤◌, cond, Bool, true, false, List, [], ◌∷◌, ◌++◌, inl, inr, refl, sym, ap, subst, arith}
+use Rattle.std.proofs.Common.{◌≡◌, ◌≢◌, ◌∙◌, ℕ, zero, suc, ◌+◌, ◌<◌, ◌≤◌, cond, Bool, true, false, List, [], ◌∷◌, ◌++◌, inl, inr, refl, ap, arith}
 use Rattle.std.specs.Prelude.{◌⊎◌}
-use Rattle.std.specs.declared.option.Option.{Option}
 use Rattle.std.specs.declared.option.Option.TheVariants.{None, Some}
 use Rattle.std.specs.List.{flat_map, range_with_len}
 use Rattle.std.proofs.lemmas.Bool.{cases_eq}
 use Rattle.amr_ranks.specs.declared.item.FrameCell.{FrameCell}
-use Rattle.amr_ranks.specs.Items.{count_at, is_at, mass_at, total}
+use Rattle.amr_ranks.specs.Items.{count_at, is_at, mass_at}
 use Rattle.amr_ranks.proofs.Sums.{one_if, total-append}
 
 module _ (patch slot : ℕ) where

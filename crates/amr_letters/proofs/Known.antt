@@ -1,14 +1,13 @@
 -- What the letters to a rank have at each slot of each patch: its cell once at most, and with its value.
-use Rattle.std.proofs.Common.{◌≡◌, ◌≢◌, ◌∙◌, ℕ, zero, suc, ◌+◌, ◌<◌, ◌≤◌, ◌==◌, cond, Bool, true, false, List, [], ◌∷◌, ◌++◌, length, inl, inr, refl, sym, ap, subst, arith, eq-eqb, ne_eqb}
+use Rattle.std.proofs.Common.{◌≡◌, ◌≢◌, ◌∙◌, ℕ, ◌<◌, ◌≤◌, ◌==◌, cond, Bool, true, false, List, [], ◌∷◌, ◌++◌, length, inl, inr, refl, sym, ap, subst, arith, eq-eqb, ne_eqb}
 use Rattle.std.specs.Prelude.{◌⊎◌, ◌&&◌, map, slice_index}
 use Rattle.std.specs.declared.option.Option.{Option}
 use Rattle.std.specs.declared.option.Option.TheVariants.{None, Some}
 use Rattle.std.specs.List.{flat_map, range_with_len}
 use Rattle.std.proofs.lemmas.Bool.{cases_eq}
-use Rattle.amr_ranks.specs.declared.item.Item.{Item}
 use Rattle.amr_ranks.specs.declared.item.FrameCell.{FrameCell}
-use Rattle.amr_ranks.specs.Items.{cells_in, count_at, is_at, mass_at}
-use Rattle.amr_ranks.specs.Letters.{LetterOf, cells_of}
+use Rattle.amr_ranks.specs.Items.{cells_in, count_at, mass_at}
+use Rattle.amr_ranks.specs.Letters.{cells_of}
 use Rattle.amr_ranks.specs.Nodes.{NodeOf}
 use Rattle.amr_ranks.specs.Laws.{HasJust}
 use Rattle.amr_ranks.proofs.Sums.{one_if}

@@ -1,5 +1,5 @@
 -- A node that has the cells that come from ranks tells whole frames: what comes from no rank is 0 in the domain, and outside its inflow.
-use Rattle.std.proofs.Common.{◌≡◌, ◌∙◌, ℕ, ◌+◌, ◌/◌, ◌^◌, ◌<◌, cond, Bool, true, false, List, length, refl, sym, ap, subst, arith}
+use Rattle.std.proofs.Common.{◌≡◌, ◌∙◌, ℕ, ◌/◌, ◌^◌, ◌<◌, cond, Bool, true, false, length, refl, sym, ap}
 use Rattle.std.specs.Prelude.{slice_index}
 use Rattle.std.specs.declared.option.Option.{Option}
 use Rattle.std.specs.declared.option.Option.TheVariants.{None, Some}
@@ -13,7 +13,7 @@ use Rattle.amr_def.specs.Value.{home_value, inflow_at, value_at}
 use Rattle.amr_patch.specs.Patches.{masses_in}
 use Rattle.amr_ranks.specs.Items.{mass_at}
 use Rattle.amr_ranks.specs.Nodes.{NodeOf}
-use Rattle.amr_letters.specs.Beside.{beside_cell, beside_count}
+use Rattle.amr_letters.specs.Beside.{beside_count}
 use Rattle.amr_letters.specs.Told.{TellsFrame, value_by, value_told}
 use Rattle.amr_letters.specs.Sources.{Sharing, box_at, ghost_at, holder, source, source_of_home, value_of}
 use Rattle.amr_letters.specs.Between.{KnowsSources}

@@ -1,7 +1,7 @@
 -- Which rank has what a ghost cell needs. (Grids are dealt out to processors, and a ghost cell is filled from the processor that has its
 -- cell: Rendleman, C. and others, Parallelization of structured, hierarchical adaptive mesh refinement algorithms, Computing and
 -- Visualization in Science 3 (2000))
-use Rattle.std.specs.Prelude.{◌≡◌, ℕ, ◌<◌, cond, Bool, ◌==◌, false, List, [], ◌∷◌, length, map, slice_index_or, pos}
+use Rattle.std.specs.Prelude.{◌≡◌, ℕ, ◌<◌, cond, List, [], ◌∷◌, length, map, slice_index_or, pos}
 use Rattle.std.specs.declared.option.Option.{Option}
 use Rattle.std.specs.declared.option.Option.TheVariants.{None, Some}
 use Rattle.std.specs.List.{All}

@@ -93,7 +93,12 @@ fn ranks_for(alloc: Global, s: Shared<'_>, ranks: u32) -> Result<Vec<Rank>, NoMe
 }
 
 /// Each of so many ranks, after the letters went: what it then has of the ghost cells of its patches.
-fn bring<R: Threads + Wait + Sync>(rt: &R, alloc: Global, s: Shared<'_>, ranks: u32) -> Result<Vec<Rank>, NoMemory>
+fn bring<R: Threads + Wait + Sync>(
+    rt: &R,
+    alloc: Global,
+    s: Shared<'_>,
+    ranks: u32,
+) -> Result<Vec<Rank>, NoMemory>
     requires level { s.level ≤ 4 }
     requires few { length s.own.patches.now ≤ 2 ^ 32 }
     requires ranks { ranks ≤ 8 }
@@ -138,7 +143,7 @@ fn frames_told<R: Threads + Wait + Sync>(
     bring(rt, alloc, shared, ranks)
 }
 
-/// Fills the frames of all patches of level `l`, from 0 to 4, by one round of letters between 1 to 8 ranks: each rank tells each rank, itself too,
+/// Fills the frames of all patches of level `l`, from 0 to 4, by one round of letters between up to 8 ranks: each rank tells each rank, itself too,
 /// the ghost cells of that rank's patches whose values its own patches have, here and in the next coarser level. `order` says how the patches
 /// stand, `owners` the rank of each. `coarser` is the next coarser level as it was before its step, with the rank of each of its patches; None at
 /// level 0. Each ghost cell beside a patch gets its value, and all else stays, the marks too. All memory is taken before a letter is sent:

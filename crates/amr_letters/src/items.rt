@@ -71,7 +71,6 @@ fn slot_count(s: Shared<'_>, number: u32) -> u32
 }
 
 /// Adds the ghost cells of a patch, slot by slot.
-
 fn add_frame(
     s: Shared<'_>,
     number: u32,
@@ -92,7 +91,6 @@ fn add_frame(
 }
 
 /// Adds the ghost cells of a patch, if rank `to` owns it.
-
 fn add_own(
     s: Shared<'_>,
     number: u32,
@@ -140,7 +138,6 @@ fn add_all(s: Shared<'_>, to: u32, lists: &mut Vec<Vec<Item>>) -> Result<(), NoM
 }
 
 /// What each of so many ranks tells rank `to`.
-
 pub(crate) fn items_for(
     alloc: Global,
     s: Shared<'_>,

@@ -18,4 +18,3 @@ pub use beside::{beside_cell, beside_count};
 pub use bring::bring_frames;
 pub use fill::{fill_frame, fill_frames};
 pub use laws::cells_beside_a_box;
-pub use levels::{OwnedPatches, Shared};

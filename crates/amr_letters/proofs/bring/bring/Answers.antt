@@ -1,4 +1,4 @@
-use Rattle.std.proofs.Common.{◌≡◌, ◌∙◌, List, length, sym, subst}
+use Rattle.std.proofs.Common.{◌∙◌, List, sym, subst}
 use Rattle.std.proofs.lemmas.List.{with_items_is}
 use Rattle.amr_post.specs.declared.ranks.Rank.{Rank}
 use Rattle.amr_letters.specs.Shared.{AreRanksFor, KnowFrames, sharing}

@@ -1,4 +1,4 @@
-use Rattle.std.proofs.Common.{◌≡◌, ◌∙◌, ◌+◌, List, ◌<◌, SomeIff, ap, refl, subst, length}
+use Rattle.std.proofs.Common.{◌∙◌, ◌+◌, List, ◌<◌, SomeIff, ap, refl, subst, length}
 use Rattle.amr_ranks.specs.declared.item.Item.{Item}
 use Rattle.std.specs.Result.{result_ok}
 use Rattle.amr_ranks.specs.Items.{total}

@@ -1,8 +1,8 @@
-use Rattle.std.proofs.Common.{◌≡◌, ◌∙◌, ◌≤◌, ◌+◌, ap, sym, subst, arith, List, length}
+use Rattle.std.proofs.Common.{◌≡◌, ◌∙◌, ◌+◌, ap, sym, subst, arith, List, length}
 use Rattle.std.specs.List.{All}
 use Rattle.amr_ranks.specs.Items.{total}
 use Rattle.amr_ranks.specs.Letters.{IsNet, LetterOf}
-use Rattle.amr_letters.specs.Shared.{AreSmallLetters, IsRankFor, sharing}
+use Rattle.amr_letters.specs.Shared.{sharing}
 use Rattle.amr_letters.proofs.Net.{count, net, own}
 use Rattle.amr_letters.proofs.bring.rank_for.Goals as goal
 

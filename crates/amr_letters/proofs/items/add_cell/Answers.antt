@@ -1,4 +1,4 @@
-use Rattle.std.proofs.Common.{◌≡◌, ◌∙◌, ◌∷◌, ◌++◌, [], ap}
+use Rattle.std.proofs.Common.{◌∙◌, ◌∷◌, ◌++◌, [], ap}
 use Rattle.std.specs.Global.{Vec}
 use Rattle.amr_ranks.specs.declared.item.Item.{Item}
 use Rattle.amr_ranks.specs.declared.item.Item.TheVariants.{Cell}

@@ -1,4 +1,3 @@
-use Rattle.std.proofs.Common.{◌≡◌, ◌∙◌, ◌==◌, [], cond, sym, slice_index_or}
 use Rattle.amr_letters.specs.Between.{told_of, told_to}
 use Rattle.amr_letters.specs.Shared.{sharing}
 use Rattle.amr_letters.proofs.Added.{added_none, added_same, on_ok, others_silent, own_told}

@@ -1,4 +1,4 @@
-use Rattle.std.proofs.Common.{◌≡◌, ◌∙◌, ◌∷◌, [], ◌==◌, cond, sym, ap}
+use Rattle.std.proofs.Common.{◌∙◌, ◌∷◌, [], ◌==◌, cond, sym, ap}
 use Rattle.amr_letters.specs.Shared.{sharing}
 use Rattle.amr_letters.specs.Sources.{source, value_of}
 use Rattle.amr_letters.specs.Between.{told_at}

@@ -1,4 +1,4 @@
-use Rattle.std.proofs.Common.{◌≡◌, ◌∙◌, sym, ap}
+use Rattle.std.proofs.Common.{◌∙◌, sym, ap}
 use Rattle.std.specs.declared.option.Option.TheVariants.{Some}
 use Rattle.amr_patch.proofs.Lookups.{masses_in-at, masses_in-none}
 use Rattle.amr_letters.proofs.Holders.{holder-at, holder-none}

@@ -1,4 +1,4 @@
-use Rattle.std.proofs.Common.{◌≡◌, ◌∙◌, ◌/◌, ap, arith}
+use Rattle.std.proofs.Common.{◌∙◌, ◌/◌, ap, arith}
 use Rattle.std.specs.Option.{unwrap_or}
 use Rattle.amr_patch.specs.Patches.{masses_in}
 use Rattle.amr_letters.specs.Sources.{holder}

@@ -1,4 +1,4 @@
-use Rattle.std.proofs.Common.{◌≡◌, ◌∙◌, sym, ap, subst}
+use Rattle.std.proofs.Common.{◌≡◌, subst}
 use Rattle.std.specs.Prelude.{option_map}
 use Rattle.amr_def.specs.Domain.{domain, home_cell}
 use Rattle.amr_letters.specs.declared.owned.Told.{Told}
