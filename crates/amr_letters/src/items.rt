@@ -26,7 +26,8 @@ fn add_cell(
 ) -> Result<(), NoMemory>
     requires from { from < length lists.old.items }
     requires small { mass < 2 ^ 32 }
-    ensures { OnOk result (AreAdded (λ rank. cond (from == rank) (record { patch = patch; slot = slot; mass = mass } ∷ []) []) lists.old.items lists.new.items) }
+    ensures { OnOk result (AreAdded (λ rank. cond (from == rank) (record { patch = patch; slot = slot; mass = mass } ∷ []) [])
+        lists.old.items lists.new.items) }
 {
     lists[from as usize].push(Item::Cell { patch, slot, mass })?;
     Ok(())
