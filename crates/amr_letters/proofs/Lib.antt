@@ -1,3 +1,11 @@
 pub mod Slots
 pub mod Fills
+pub mod Joined
+pub mod Known
+pub mod Holders
+pub mod Added
+pub mod Net
+pub mod Made
+pub mod Tells
 pub mod Patches
+pub mod Brought
