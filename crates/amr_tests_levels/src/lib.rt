@@ -9,6 +9,8 @@ mod boxes;
 #[cfg(test)]
 mod frames;
 #[cfg(test)]
+mod letters;
+#[cfg(test)]
 mod plans;
 #[cfg(test)]
 mod register;
