@@ -1,10 +1,11 @@
 -- Ranks noted at the places of their items: what the loops of `note` and `ranks_of` keep.
-use Rattle.std.proofs.Common.{◌≡◌, ◌≢◌, ◌∙◌, ℕ, ◌+◌, ◌<◌, ◌≤◌, List, [], length, get_or, set, refl, sym, subst, inl, inr, arith, below_more}
+use Rattle.std.proofs.Common.{◌≡◌, ◌≢◌, ◌∙◌, ℕ, ◌+◌, ◌<◌, ◌≤◌, List, [], length, get_or, set, refl, sym, ap, subst, inl, inr, arith, below_more}
 use Rattle.std.proofs.lemmas.Bool.Decides.{eqb_tells}
 use Rattle.std.proofs.lemmas.List.{length-set, get_or_default, get_or-set_same, get_or-set_other}
 use Rattle.std.specs.List.{All}
 use Rattle.amr_owners.specs.Owners.{AreOwners, AreRanksOf, IsNoneOf}
 use Rattle.amr_owners.proofs.Members.{of_two}
+use Rattle.amr_owners.proofs.Order.{each_owned}
 
 pub record IsNotedTo (ns : List ℕ) (k rank : ℕ) (old new : List ℕ) : Type 0 where
   pub long : length new ≡ length old
@@ -57,3 +58,13 @@ one_ranked numbers all r count old new owners there long noted others h = record
 
 pub all_ranked : (numbers : List (List ℕ)) (r count : ℕ) (ranks : List ℕ) → length numbers ≤ r → AreNotedTo numbers r count ranks → AreRanksOf numbers ranks
 all_ranked numbers r count ranks low h q lt = h.ranked q (omega arith)
+
+-- and each item has one of the ranks
+pub each_ranked : (numbers : List (List ℕ)) (all count : ℕ) (ranks : List ℕ) → AreOwners numbers all count → length ranks ≡ count → AreRanksOf numbers ranks → All (λ rank. rank < all) ranks
+each_ranked numbers all count ranks owners long are k d lt =
+    let below : k < count = omega (arith, lt, long) in
+    let r = owners.rank_of k in
+    let there = owners.ranked k below in
+    let own = each_owned numbers all count owners k below in
+    let is : get_or ranks k 0 ≡ r = ap (λ n. get_or ranks n 0) (sym own.2) ∙ are r (omega (arith, there, owners.lists)) own.0 k own.1 in
+    subst (λ n. n < all) (get_or_default ranks k 0 d lt) (omega (arith, is, there))

@@ -27,6 +27,7 @@ pub fn ranks_of(alloc: Global, numbers: &[Vec<u32>], count: usize) -> Result<Vec
     requires few { length numbers.now ≤ 2 ^ 32 }
     ensures long { IfOk result (λ v. length v.items ≡ count) }
     ensures ranks { IfOk result (λ v. AreRanksOf (lists_in numbers.now) v.items) }
+    ensures ranked { IfOk result (λ v. All (λ rank. rank < length numbers.now) v.items) }
 {
     let mut ranks = vec![in alloc; 0u32; count]?;
     for rank in 0..numbers.len() {

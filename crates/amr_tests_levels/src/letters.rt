@@ -7,6 +7,7 @@ use crate::frames::{are_of_level, cell, ghost_at, patch, set};
 use amr_causes::NoMemory;
 use amr_def::{Problem, Sides};
 use amr_letters::bring_frames;
+use amr_owners::{make, ranks_of};
 use amr_patch::{Patch, order_of};
 use amr_samples::problem;
 use std::alloc::Global;
@@ -14,17 +15,15 @@ use std::sync::Wait;
 use std::test::Fail;
 use std::thread::Threads;
 
-/// The owners of so many patches: each rank in turn.
-fn in_turn(alloc: Global, count: usize, ranks: u32) -> Result<Vec<u32>, NoMemory>
-    requires some { 0 < ranks }
-    ensures count { IfOk result (λ v. length v.items ≡ count) }
+/// The owner of each patch: one of so many ranks, by areas.
+fn owners_of(alloc: Global, patches: &[Patch], ranks: u32) -> Result<Vec<u32>, NoMemory>
+    requires some { 1 ≤ ranks }
+    requires few { ranks ≤ 8 }
+    ensures count { IfOk result (λ v. length v.items ≡ length patches.now) }
     ensures owners { IfOk result (λ v. All (λ owner. owner < ranks) v.items) }
 {
-    let mut owners = Vec::with_capacity(alloc, count)?;
-    for k in 0..count {
-        owners.push_reserved((k % ranks as usize) as u32);
-    }
-    Ok(owners)
+    let numbers = make(alloc, patches, ranks)?;
+    ranks_of(alloc, &numbers, patches.len())
 }
 
 /// Fills the frames of the patches of level 0, if they are those of a level, by letters between so many ranks.
@@ -35,14 +34,14 @@ fn fill_by_letters<R: Threads + Wait + Sync>(
     p: &Problem,
     patches: &mut [Patch],
 ) -> Result<bool, Fail>
-    requires some { 0 < ranks }
+    requires some { 1 ≤ ranks }
     requires few { ranks ≤ 8 }
 {
     if !are_of_level(p, 0, patches) {
         return Ok(false);
     }
     let order = order_of(patches);
-    let owners = in_turn(alloc, patches.len(), ranks)?;
+    let owners = owners_of(alloc, patches, ranks)?;
     bring_frames(rt, alloc, p, 0, patches, order, &owners, None, ranks)?;
     Ok(true)
 }

@@ -1,10 +1,12 @@
-use Rattle.std.proofs.Common.{◌≡◌, ℕ, ◌+◌, ◌<◌, ◌∙◌, List, [], length, get_or, sym, ap, subst}
+use Rattle.std.proofs.Common.{◌≡◌, ℕ, ◌+◌, ◌<◌, ◌∙◌, List, [], length, get_or, sym, ap, subst, arith}
+use Rattle.std.specs.Global.{Vec}
 use Rattle.std.specs.List.{All}
+use Rattle.std.proofs.lemmas.List.{length-map}
 use Rattle.amr_balance.specs.Shares.{lists_in}
 use Rattle.amr_owners.specs.Owners.{IsNoneOf}
 use Rattle.amr_owners.proofs.Exchanging.{list_is, put_back}
 use Rattle.amr_owners.proofs.Members.{within_all}
-use Rattle.amr_owners.proofs.Noting.{AreNotedTo, one_ranked}
+use Rattle.amr_owners.proofs.Noting.{AreNotedTo, all_ranked, each_ranked, one_ranked}
 use Rattle.amr_owners.proofs.ranks.ranks_of.Goals as goal
 
 pub note-requires : goal.note-requires
@@ -31,3 +33,10 @@ loop-rank-preserved c =
     (subst (All (λ n. get_or new n 0 ≡ r)) (sym is) c.note.ensures.noted)
     (λ n none. c.note.ensures.others n (subst (λ (l : List ℕ). IsNoneOf l n) is none) ∙ ap (λ (l : List ℕ). get_or l n 0) c.deref_mut.ensures.value)
     c.loop-rank.invariant)
+
+pub returns-clause-ranked : goal.returns-clause-ranked
+returns-clause-ranked c =
+    let ns = lists_in c.args.numbers.now in
+    let done = c.loop-rank.invariant in
+    let all = length c.args.numbers.now in
+    each_ranked ns all c.args.count c.loop-rank.ranks.items c.requires.owners done.long (all_ranked ns c.loop-rank.rank c.args.count c.loop-rank.ranks.items (let n = length-map c.args.numbers.now (λ (v : Vec ℕ). v.items) in omega (arith, n, c.loop-rank-test.false)) done)
